@@ -1,0 +1,11 @@
+pub mod Table
+pub mod Sets
+pub mod Reach
+pub mod Best
+pub mod Join
+pub mod Grow
+pub mod Walks
+pub mod Dates
+pub mod Unique
+pub mod Intakes
+pub mod Spelling

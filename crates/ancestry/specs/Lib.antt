@@ -1,0 +1,15 @@
+pub mod Sets
+pub mod Commits
+pub mod Reaching
+pub mod Keys
+pub mod Lawful
+pub mod Bases
+pub mod Naming
+pub mod Walk
+pub mod Finish
+pub mod Describe
+pub mod Nearest
+pub mod Numbers
+pub mod Intake
+pub mod Theorems
+pub mod Cases
