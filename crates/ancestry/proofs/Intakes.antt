@@ -11,7 +11,7 @@ use lib.ListN.{length}
 use Rattle.std.specs.declared.option.Option.{Option}
 use Rattle.std.specs.declared.option.Option.the-variants.{Some, None}
 use Rattle.std.proofs.shelf.Lists.{append-assoc, append-nil}
-use Rattle.std.proofs.shelf.Tests.{false≢true, both-ways, eqb-false, lt-ltb, le-leb, cases-lt, and-from}
+use Rattle.std.proofs.shelf.Tests.{false≢true, both-ways, eqb-false, ltb-false, lt-ltb, le-leb, cases-lt, and-from}
 use Rattle.ancestry.specs.Sets.{any, member, absent}
 use Rattle.ancestry.specs.Commits.{Commit, at, place-of, parents-of}
 use Rattle.ancestry.specs.Reaching.{Reaches}
@@ -100,6 +100,10 @@ module _ (room : ℕ) (H : List Commit) (c : Commit) (welcome : refusal room H c
     (λ (l : rank (at H r .generation) ≤ rank (c .generation)). l)
     (cases-lt (rank (c .generation)) (rank (at H r .generation)))
 
+  pub few-parents : length (c .parents) ≤ 16
+  unfolding applies
+  few-parents = ltb-false 16 (length (c .parents)) (none-applies room H c welcome TooManyParents)
+
   pub not-full : length H ≡ room → ⊥
   unfolding applies
   not-full e = eqb-false (length H) room (none-applies room H c welcome Full) e
@@ -169,3 +173,15 @@ unchanged-law room H (c ∷ cs) L t f zs hf hz =
   let r = unchanged-law room G cs (growth-law room H c L (t .0)) (t .1) f zs (held-later H c f hf) (λ i m. held-later H c i (hz i m)) in
   let k = keeps H c (L .lawful) f zs hf hz in
   rw j (r .0 ∙ k .0, r .1 ∙ k .1, λ a. r .2 a ∙ describe-keeps H c (L .lawful) a f hf)
+
+-- the first of seven tests that passes
+abbrev pub pick : Bool → Bool → Bool → Bool → Bool → Bool → Bool → Option Refusal
+pick date high many held parent rises full =
+  cond date (Some DateOutOfRange) (cond high (Some GenerationTooHigh) (cond many (Some TooManyParents) (cond held (Some IdHeld) (cond parent (Some NoSuchParent) (cond rises (Some GenerationRises) (cond full (Some Full) None))))))
+
+pub refusal-pick : (room : ℕ) (H : List Commit) (c : Commit) (date high many held parent rises full : Bool)
+  → applies room H c DateOutOfRange ≡ date → applies room H c GenerationTooHigh ≡ high → applies room H c TooManyParents ≡ many → applies room H c IdHeld ≡ held
+  → applies room H c NoSuchParent ≡ parent → applies room H c GenerationRises ≡ rises → applies room H c Full ≡ full
+  → refusal room H c ≡ pick date high many held parent rises full
+unfolding refusal first-that
+refusal-pick room H c date high many held parent rises full p q r s t u v = rw (p, q, r, s, t, u, v) refl

@@ -204,3 +204,23 @@ place-law H i = go (place-of H i) refl
     go : (o : Option ℕ) → place-of H i ≡ o → Cases o ((p : ℕ) → p < length H → at H p .id ≡ i → ⊥) (λ p. (p < length H) × (at H p .id ≡ i))
     go None e = λ p l k. let r = place-some H i p l k in let z : _≡_ {A = ℕ} 0 1 = cc in omega arith
     go (Some p) e = place-says H i p e
+
+-- the first place that holds the id, and none where no place does
+pub place-first : (H : List Commit) (i p : ℕ) → p < length H → at H p .id ≡ i → ((j : ℕ) → j < p → at H j .id ≡ i → ⊥) → place-of H i ≡ Some p
+unfolding place-of at next
+place-first [] i p l e h = absurd (omega arith)
+place-first (c ∷ H) i zero l e h = rw (eq-eqb (c .id) i e)
+place-first (c ∷ H) i (suc p) l e h = go (eqb (c .id) i) refl (place-first H i p (omega arith) e (λ j k. h (suc j) (omega arith)))
+  where
+    go : (b : Bool) → eqb (c .id) i ≡ b → place-of H i ≡ Some p → cond b (Some 0) (next (place-of H i)) ≡ Some (suc p)
+    go true k r = absurd (h 0 (omega arith) (eqb-true (c .id) i k))
+    go false k r = ap next r
+
+pub place-nowhere : (H : List Commit) (i : ℕ) → ((j : ℕ) → j < length H → at H j .id ≡ i → ⊥) → place-of H i ≡ None
+unfolding place-of at next
+place-nowhere [] i h = refl
+place-nowhere (c ∷ H) i h = go (eqb (c .id) i) refl (place-nowhere H i (λ j k. h (suc j) (omega arith)))
+  where
+    go : (b : Bool) → eqb (c .id) i ≡ b → place-of H i ≡ None → cond b (Some 0) (next (place-of H i)) ≡ None
+    go true k r = absurd (h 0 (omega arith) (eqb-true (c .id) i k))
+    go false k r = ap next r

@@ -1,0 +1,3 @@
+pub mod Sames
+pub mod Listed
+pub mod Verdicts
