@@ -32,6 +32,7 @@ place-says (c ∷ H) i p e = first (λ r k. place-says H i r k) (eqb (c .id) i) 
     later : (o : Option ℕ) → place-of H i ≡ o → next o ≡ Some p → ((r : ℕ) → place-of H i ≡ Some r → (r < length H) × (at H r .id ≡ i)) → (p < suc (length H)) × (at (c ∷ H) p .id ≡ i)
     later None k e g = absurd (let z : _≡_ {A = ℕ} 0 1 = cc in omega arith)
     later (Some r) k e g = let d : suc r ≡ p = cc in let x = g r k in rw (← d) (omega (arith, x .0), x .1)
+
     first : ((r : ℕ) → place-of H i ≡ Some r → (r < length H) × (at H r .id ≡ i)) → (b : Bool) → eqb (c .id) i ≡ b → cond b (Some 0) (next (place-of H i)) ≡ Some p → (p < suc (length H)) × (at (c ∷ H) p .id ≡ i)
     first g true k e = let d : 0 ≡ p = cc in rw (← d) (omega arith, eqb-true (c .id) i k)
     first g false k e = later (place-of H i) refl e g
@@ -39,9 +40,9 @@ place-says (c ∷ H) i p e = first (λ r k. place-says H i r k) (eqb (c .id) i) 
 pub swap-law : Swap-law
 unfolding bases shared empty any member
 swap-law H a b = ⊎-elim
-  (λ (e : a ≡ b). rw e refl)
-  (λ (n : a ≡ b → ⊥). rw (ne-eqb a b n, ne-eqb b a (λ e. n (sym e))) (ap (ids H) (best-cong H (λ p. id-reaches H a p && (id-reaches H b p || false)) (λ p. id-reaches H b p && (id-reaches H a p || false)) (λ p _. turn (id-reaches H a p) (id-reaches H b p)))))
-  (cases-eq a b)
+    (λ (e : a ≡ b). rw e refl)
+    (λ (n : a ≡ b → ⊥). rw (ne-eqb a b n, ne-eqb b a (λ e. n (sym e))) (ap (ids H) (best-cong H (λ p. id-reaches H a p && (id-reaches H b p || false)) (λ p. id-reaches H b p && (id-reaches H a p || false)) (λ p _. turn (id-reaches H a p) (id-reaches H b p)))))
+    (cases-eq a b)
   where
     turn : (x y : Bool) → (x && (y || false)) ≡ (y && (x || false))
     turn true true = refl
@@ -62,17 +63,17 @@ pub ids-intro : (H : List Commit) (p : ℕ) (ps : List ℕ) → member p ps ≡ 
 unfolding ids member any
 ids-intro H p [] m = absurd (false≢true m)
 ids-intro H p (q ∷ qs) m = ⊎-elim
-  (λ (e : eqb p q ≡ true). or-left (eqb (at H p .id) (at H q .id)) (member (at H p .id) (ids H qs)) (eq-eqb (at H p .id) (at H q .id) (ap (λ z. at H z .id) (eqb-true p q e))))
-  (λ (k : member p qs ≡ true). or-right (eqb (at H p .id) (at H q .id)) (member (at H p .id) (ids H qs)) (ids-intro H p qs k))
-  (or-cases (eqb p q) (member p qs) m)
+    (λ (e : eqb p q ≡ true). or-left (eqb (at H p .id) (at H q .id)) (member (at H p .id) (ids H qs)) (eq-eqb (at H p .id) (at H q .id) (ap (λ z. at H z .id) (eqb-true p q e))))
+    (λ (k : member p qs ≡ true). or-right (eqb (at H p .id) (at H q .id)) (member (at H p .id) (ids H qs)) (ids-intro H p qs k))
+    (or-cases (eqb p q) (member p qs) m)
 
 pub ids-elim : (H : List Commit) (i : ℕ) (ps : List ℕ) → member i (ids H ps) ≡ true → (p : ℕ) × (member p ps ≡ true) × (i ≡ at H p .id)
 unfolding ids member any
 ids-elim H i [] m = absurd (false≢true m)
 ids-elim H i (q ∷ qs) m = ⊎-elim
-  (λ (e : eqb i (at H q .id) ≡ true). (q, or-left (eqb q q) (member q qs) (eq-eqb q q refl), eqb-true i (at H q .id) e))
-  (λ (k : member i (ids H qs) ≡ true). let r = ids-elim H i qs k in (r .0, or-right (eqb (r .0) q) (member (r .0) qs) (r .1), r .2))
-  (or-cases (eqb i (at H q .id)) (member i (ids H qs)) m)
+    (λ (e : eqb i (at H q .id) ≡ true). (q, or-left (eqb q q) (member q qs) (eq-eqb q q refl), eqb-true i (at H q .id) e))
+    (λ (k : member i (ids H qs) ≡ true). let r = ids-elim H i qs k in (r .0, or-right (eqb (r .0) q) (member (r .0) qs) (r .1), r .2))
+    (or-cases (eqb i (at H q .id)) (member i (ids H qs)) m)
 
 pub keep-none : (t : ℕ → Bool) (ys : List ℕ) → ((y : ℕ) → member y ys ≡ true → t y ≡ false) → keep t ys ≡ []
 unfolding keep member any
@@ -83,17 +84,17 @@ pub keep-one-insert : (t : ℕ → Bool) (b : ℕ → ℕ → Bool) (s : ℕ) (y
 unfolding keep insert member any
 keep-one-insert t b s [] e h = rw e
 keep-one-insert t b s (y ∷ ys) e h =
-  let a : t y ≡ false = h y (or-left (eqb y y) (member y ys) (eq-eqb y y refl)) in
-  let g : keep t (insert b s ys) ≡ s ∷ [] = keep-one-insert t b s ys e (λ x m. h x (or-right (eqb x y) (member x ys) m)) in
-  let n : keep t ys ≡ [] = keep-none t ys (λ x m. h x (or-right (eqb x y) (member x ys) m)) in grind arith
+    let a : t y ≡ false = h y (or-left (eqb y y) (member y ys) (eq-eqb y y refl)) in
+    let g : keep t (insert b s ys) ≡ s ∷ [] = keep-one-insert t b s ys e (λ x m. h x (or-right (eqb x y) (member x ys) m)) in
+    let n : keep t ys ≡ [] = keep-none t ys (λ x m. h x (or-right (eqb x y) (member x ys) m)) in grind arith
 
 pub keep-one : (t : ℕ → Bool) (b : ℕ → ℕ → Bool) (s n : ℕ) → s < n → t s ≡ true → ((y : ℕ) → y < n → t y ≡ true → y ≡ s) → keep t (ordered b n) ≡ s ∷ []
 unfolding ordered
 keep-one t b s zero l e u = absurd (omega arith)
 keep-one t b s (suc n) l e u = ⊎-elim
-  (λ (k : s ≡ n). rw (← k) (keep-one-insert t b s (ordered b s) e (λ y m. not-so (t y) (λ h. let w : y < s = ltb-true y s (sym (member-ordered b y s) ∙ m) in let v : y ≡ s = u y (omega arith) h in omega arith))))
-  (λ (k : s ≡ n → ⊥). keep-insert t b n (ordered b n) (not-so (t n) (λ h. k (sym (u n (omega arith) h)))) ∙ keep-one t b s n (omega arith) e (λ y w. u y (omega arith)))
-  (cases-eq s n)
+    (λ (k : s ≡ n). rw (← k) (keep-one-insert t b s (ordered b s) e (λ y m. not-so (t y) (λ h. let w : y < s = ltb-true y s (sym (member-ordered b y s) ∙ m) in let v : y ≡ s = u y (omega arith) h in omega arith))))
+    (λ (k : s ≡ n → ⊥). keep-insert t b n (ordered b n) (not-so (t n) (λ h. k (sym (u n (omega arith) h)))) ∙ keep-one t b s n (omega arith) e (λ y w. u y (omega arith)))
+    (cases-eq s n)
 
 pub place-some : (H : List Commit) (i p : ℕ) → p < length H → at H p .id ≡ i → (q : ℕ) × (place-of H i ≡ Some q)
 unfolding place-of at next
@@ -120,8 +121,8 @@ shared-intro H f zs p a b = and-from (id-reaches H f p) (any (λ i. id-reaches H
 pub best-one : (H : List Commit) (s : ℕ) → s < length H → best H (λ p. eqb p s) ≡ s ∷ []
 unfolding best ranked
 best-one H s l = keep-one (λ p. eqb p s && unreached H (λ p. eqb p s) p) (λ p q. better (at H p) (at H q)) s (length H) l
-  (and-from (eqb s s) (unreached H (λ p. eqb p s) s) (eq-eqb s s refl) (says-unreached H (λ p. eqb p s) s (λ q _ e _. eqb-true q s e)))
-  (λ y _ e. eqb-true y s (and-parts (eqb y s) (unreached H (λ p. eqb p s) y) e .0))
+    (and-from (eqb s s) (unreached H (λ p. eqb p s) s) (eq-eqb s s refl) (says-unreached H (λ p. eqb p s) s (λ q _ e _. eqb-true q s e)))
+    (λ y _ e. eqb-true y s (and-parts (eqb y s) (unreached H (λ p. eqb p s) y) e .0))
 
 pub best-inside : (H : List Commit) (S : ℕ → Bool) (q : ℕ) → member q (best H S) ≡ true → q < length H
 best-inside H S q m = best-elim H S q m .below
@@ -129,15 +130,15 @@ best-inside H S q m = best-elim H S q m .below
 module _ (H : List Commit) (L : Lawful H) where
   pub place-held : (p : ℕ) → p < length H → place-of H (at H p .id) ≡ Some p
   place-held p l =
-    let r = place-some H (at H p .id) p l refl in
-    let x = place-says H (at H p .id) (r .0) (r .1) in
-    let e : r .0 ≡ p = L .apart (r .0) p (x .0) l (x .1) in
-    rw e at (r .1)
+      let r = place-some H (at H p .id) p l refl in
+      let x = place-says H (at H p .id) (r .0) (r .1) in
+      let e : r .0 ≡ p = L .apart (r .0) p (x .0) l (x .1) in
+      rw e at (r .1)
 
   -- the id of a place is in the ids of places exactly when the place is among them
   pub ids-back : (p : ℕ) (ps : List ℕ) → p < length H → ((q : ℕ) → member q ps ≡ true → q < length H) → member (at H p .id) (ids H ps) ≡ true → member p ps ≡ true
   ids-back p ps l i m = let r = ids-elim H (at H p .id) ps m in
-    let e : p ≡ r .0 = L .apart p (r .0) l (i (r .0) (r .1)) (r .2) in rw e (r .1)
+      let e : p ≡ r .0 = L .apart p (r .0) l (i (r .0) (r .1)) (r .2) in rw e (r .1)
 
   -- the rule for `first` among the others is the general rule
   pub bases-general : (f : ℕ) → Held H f → (zs : List ℕ) → zs ≢ [] → bases H f zs ≡ ids H (best H (shared H f zs))
@@ -147,17 +148,23 @@ module _ (H : List Commit) (L : Lawful H) where
     where
       s : ℕ
       s = h .0
+
       x : (s < length H) × (at H s .id ≡ f)
       x = place-says H f s (h .1)
+
       S : ℕ → Bool
       S = shared H f (z ∷ zs)
+
       here : (p : ℕ) → S p ≡ true → reaches H s p ≡ true
       here p k = sym (id-reaches-at H f s p (h .1)) ∙ shared-elim H f (z ∷ zs) p k .0
+
       top : member f (z ∷ zs) ≡ true → S s ≡ true
       top m = let e : id-reaches H f s ≡ true = id-reaches-at H f s s (h .1) ∙ reaches-itself H s in
-        shared-intro H f (z ∷ zs) s e (any-intro (λ i. id-reaches H i s) f (z ∷ zs) m e)
+          shared-intro H f (z ∷ zs) s e (any-intro (λ i. id-reaches H i s) f (z ∷ zs) m e)
+
       one : member f (z ∷ zs) ≡ true → best H S ≡ s ∷ []
       one m = sym (best-part H L S (λ p. eqb p s) (λ p l e. rw (eqb-true p s e) (top m)) (λ p l k. (s, x .0, eq-eqb s s refl, here p k))) ∙ best-one H s (x .0)
+
       go : (b : Bool) → member f (z ∷ zs) ≡ b → cond b (f ∷ []) (ids H (best H S)) ≡ ids H (best H S)
       go true m = ap (λ (i : ℕ). i ∷ []) (sym (x .1)) ∙ sym (ap (ids H) (one m))
       go false m = refl
@@ -165,7 +172,7 @@ module _ (H : List Commit) (L : Lawful H) where
   -- a place is among the answers exactly when it is among the best
   pub in-bases : (f : ℕ) → Held H f → (zs : List ℕ) → zs ≢ [] → (p : ℕ) → p < length H → member (at H p .id) (bases H f zs) ≡ member p (best H (shared H f zs))
   in-bases f h zs n p l = rw (bases-general f h zs n) (same (member (at H p .id) (ids H (best H (shared H f zs)))) (member p (best H (shared H f zs)))
-    (ids-back p (best H (shared H f zs)) l (best-inside H (shared H f zs))) (ids-intro H p (best H (shared H f zs))))
+      (ids-back p (best H (shared H f zs)) l (best-inside H (shared H f zs))) (ids-intro H p (best H (shared H f zs))))
 
 pub nonempty : (xs ys : List ℕ) → xs ≢ [] → (xs ++ ys) ≢ []
 nonempty [] ys n e = n refl
@@ -177,26 +184,31 @@ join-law H L f h xs ys nx ny = bases-general H L f h (xs ++ ys) (nonempty xs ys 
   where
     S : ℕ → Bool
     S = shared H f (xs ++ ys)
+
     B : ℕ → Bool
     B p = member (at H p .id) (bases H f xs ++ bases H f ys)
+
     split : (p : ℕ) → any (λ i. id-reaches H i p) (xs ++ ys) ≡ (any (λ i. id-reaches H i p) xs || any (λ i. id-reaches H i p) ys)
     split p = any-append (λ i. id-reaches H i p) xs ys
+
     parts : (p : ℕ) → p < length H → B p ≡ (member p (best H (shared H f xs)) || member p (best H (shared H f ys)))
     parts p l = member-append (at H p .id) (bases H f xs) (bases H f ys) ∙ rw (in-bases H L f h xs nx p l, in-bases H L f h ys ny p l)
+
     sub : (p : ℕ) → p < length H → B p ≡ true → S p ≡ true
     sub p l b = ⊎-elim
-      (λ (m : member p (best H (shared H f xs)) ≡ true). let e = shared-elim H f xs p (best-elim H (shared H f xs) p m .of) in
+        (λ (m : member p (best H (shared H f xs)) ≡ true). let e = shared-elim H f xs p (best-elim H (shared H f xs) p m .of) in
         shared-intro H f (xs ++ ys) p (e .0) (split p ∙ or-left (any (λ i. id-reaches H i p) xs) (any (λ i. id-reaches H i p) ys) (e .1)))
-      (λ (m : member p (best H (shared H f ys)) ≡ true). let e = shared-elim H f ys p (best-elim H (shared H f ys) p m .of) in
+        (λ (m : member p (best H (shared H f ys)) ≡ true). let e = shared-elim H f ys p (best-elim H (shared H f ys) p m .of) in
         shared-intro H f (xs ++ ys) p (e .0) (split p ∙ or-right (any (λ i. id-reaches H i p) xs) (any (λ i. id-reaches H i p) ys) (e .1)))
-      (or-cases (member p (best H (shared H f xs))) (member p (best H (shared H f ys))) (sym (parts p l) ∙ b))
+        (or-cases (member p (best H (shared H f xs))) (member p (best H (shared H f ys))) (sym (parts p l) ∙ b))
+
     dom : (p : ℕ) → p < length H → S p ≡ true → (b : ℕ) × (b < length H) × (B b ≡ true) × (reaches H b p ≡ true)
     dom p l s = let e = shared-elim H f (xs ++ ys) p s in ⊎-elim
-      (λ (m : any (λ i. id-reaches H i p) xs ≡ true). let a = above H L (shared H f xs) p l (shared-intro H f xs p (e .0) m) in
+        (λ (m : any (λ i. id-reaches H i p) xs ≡ true). let a = above H L (shared H f xs) p l (shared-intro H f xs p (e .0) m) in
         (a .0, a .1, parts (a .0) (a .1) ∙ or-left (member (a .0) (best H (shared H f xs))) (member (a .0) (best H (shared H f ys))) (a .2), a .3))
-      (λ (m : any (λ i. id-reaches H i p) ys ≡ true). let a = above H L (shared H f ys) p l (shared-intro H f ys p (e .0) m) in
+        (λ (m : any (λ i. id-reaches H i p) ys ≡ true). let a = above H L (shared H f ys) p l (shared-intro H f ys p (e .0) m) in
         (a .0, a .1, parts (a .0) (a .1) ∙ or-right (member (a .0) (best H (shared H f xs))) (member (a .0) (best H (shared H f ys))) (a .2), a .3))
-      (or-cases (any (λ i. id-reaches H i p) xs) (any (λ i. id-reaches H i p) ys) (sym (split p) ∙ e .1))
+        (or-cases (any (λ i. id-reaches H i p) xs) (any (λ i. id-reaches H i p) ys) (sym (split p) ∙ e .1))
 
 pub place-law : Place-law
 place-law H i = go (place-of H i) refl

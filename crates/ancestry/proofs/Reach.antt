@@ -24,9 +24,9 @@ pub within-sound : (H : List Commit) (k p q : ℕ) → within H k p q ≡ true �
 unfolding within
 within-sound H zero p q h = itself (eqb-true p q h)
 within-sound H (suc k) p q h = ⊎-elim
-  (λ (e : eqb p q ≡ true). itself (eqb-true p q e))
-  (λ (m : any (λ r. within H k r q) (at H p .parents) ≡ true). let r = any-elim (λ r. within H k r q) (at H p .parents) m in through (r .1) (within-sound H k (r .0) q (r .2)))
-  (or-cases (eqb p q) (any (λ r. within H k r q) (at H p .parents)) h)
+    (λ (e : eqb p q ≡ true). itself (eqb-true p q e))
+    (λ (m : any (λ r. within H k r q) (at H p .parents) ≡ true). let r = any-elim (λ r. within H k r q) (at H p .parents) m in through (r .1) (within-sound H k (r .0) q (r .2)))
+    (or-cases (eqb p q) (any (λ r. within H k r q) (at H p .parents)) h)
 
 pub within-itself : (H : List Commit) (k p : ℕ) → within H k p p ≡ true
 unfolding within
@@ -37,10 +37,10 @@ pub within-more : (H : List Commit) (k p q : ℕ) → within H k p q ≡ true �
 unfolding within
 within-more H zero p q h = or-left (eqb p q) (any (λ r. within H zero r q) (at H p .parents)) h
 within-more H (suc k) p q h = ⊎-elim
-  (λ (e : eqb p q ≡ true). or-left (eqb p q) (any (λ r. within H (suc k) r q) (at H p .parents)) e)
-  (λ (m : any (λ r. within H k r q) (at H p .parents) ≡ true). let r = any-elim (λ r. within H k r q) (at H p .parents) m in
+    (λ (e : eqb p q ≡ true). or-left (eqb p q) (any (λ r. within H (suc k) r q) (at H p .parents)) e)
+    (λ (m : any (λ r. within H k r q) (at H p .parents) ≡ true). let r = any-elim (λ r. within H k r q) (at H p .parents) m in
     or-right (eqb p q) (any (λ r. within H (suc k) r q) (at H p .parents)) (any-intro (λ r. within H (suc k) r q) (r .0) (at H p .parents) (r .1) (within-more H k (r .0) q (r .2))))
-  (or-cases (eqb p q) (any (λ r. within H k r q) (at H p .parents)) h)
+    (or-cases (eqb p q) (any (λ r. within H k r q) (at H p .parents)) h)
 
 -- one more parent changes nothing
 abbrev pub Stable : List Commit → ℕ → ℕ → Type 0
@@ -54,12 +54,13 @@ stable-more H k q s p = ap (λ (b : Bool). eqb p q || b) (any-cong (λ r. within
 pub differ : (s t : ℕ → Bool) (n : ℕ) → ((p : ℕ) × (p < n) × (s p ≡ false) × (t p ≡ true)) ⊎ ((p : ℕ) → p < n → t p ≡ true → s p ≡ true)
 differ s t zero = inr (λ p l. absurd (omega arith))
 differ s t (suc n) = ⊎-elim
-  (λ (d : (p : ℕ) × (p < n) × (s p ≡ false) × (t p ≡ true)). inl (d .0, omega arith, d .2, d .3))
-  (λ (e : (p : ℕ) → p < n → t p ≡ true → s p ≡ true). go e (s n) (t n) refl refl)
-  (differ s t n)
+    (λ (d : (p : ℕ) × (p < n) × (s p ≡ false) × (t p ≡ true)). inl (d .0, omega arith, d .2, d .3))
+    (λ (e : (p : ℕ) → p < n → t p ≡ true → s p ≡ true). go e (s n) (t n) refl refl)
+    (differ s t n)
   where
     here : ((p : ℕ) → p < n → t p ≡ true → s p ≡ true) → (t n ≡ true → s n ≡ true) → (p : ℕ) → p < suc n → t p ≡ true → s p ≡ true
     here e k p l h = ⊎-elim (λ (x : p < n). e p x h) (λ (x : n ≤ p). let y : p ≡ n = omega arith in rw y (k (rw y at h))) (cases-lt p n)
+
     go : ((p : ℕ) → p < n → t p ≡ true → s p ≡ true) → (a b : Bool) → s n ≡ a → t n ≡ b → ((p : ℕ) × (p < suc n) × (s p ≡ false) × (t p ≡ true)) ⊎ ((p : ℕ) → p < suc n → t p ≡ true → s p ≡ true)
     go e true b x y = inr (here e (λ _. x))
     go e false true x y = inl (n, omega arith, x, y)
@@ -74,23 +75,24 @@ within-past H (suc k) p q l h = ⊎-elim (λ (e : eqb p q ≡ true). e) (λ (m :
 pub growth : (H : List Commit) (q k : ℕ) → q < length H → Stable H k q ⊎ (k < size (λ p. within H k p q) (length H))
 growth H q zero l = inr (let m : size (λ _. false) (length H) < size (λ p. within H 0 p q) (length H) = size-less (λ _. false) (λ p. within H 0 p q) (length H) q (λ p _ h. absurd (false≢true h)) l refl (within-itself H 0 q) in omega arith)
 growth H q (suc k) l = ⊎-elim
-  (λ (s : Stable H k q). inl (stable-more H k q s))
-  (λ (g : k < size (λ p. within H k p q) (length H)). ⊎-elim
+    (λ (s : Stable H k q). inl (stable-more H k q s))
+    (λ (g : k < size (λ p. within H k p q) (length H)). ⊎-elim
     (λ (d : (p : ℕ) × (p < length H) × (within H k p q ≡ false) × (within H (suc k) p q ≡ true)).
-      inr (let m : size (λ p. within H k p q) (length H) < size (λ p. within H (suc k) p q) (length H) = size-less (λ p. within H k p q) (λ p. within H (suc k) p q) (length H) (d .0) (λ p _. within-more H k p q) (d .1) (d .2) (d .3) in omega arith))
+    inr (let m : size (λ p. within H k p q) (length H) < size (λ p. within H (suc k) p q) (length H) = size-less (λ p. within H k p q) (λ p. within H (suc k) p q) (length H) (d .0) (λ p _. within-more H k p q) (d .1) (d .2) (d .3) in omega arith))
     (λ (e : (p : ℕ) → p < length H → within H (suc k) p q ≡ true → within H k p q ≡ true). inl (stable-more H k q (λ p. same (within H (suc k) p q) (within H k p q) (upto e p) (within-more H k p q))))
     (differ (λ p. within H k p q) (λ p. within H (suc k) p q) (length H)))
-  (growth H q k l)
+    (growth H q k l)
   where
     again : (p : ℕ) → eqb p q ≡ true → within H k p q ≡ true
     again p e = rw (eqb-true p q e) (within-itself H k q)
+
     upto : ((p : ℕ) → p < length H → within H (suc k) p q ≡ true → within H k p q ≡ true) → (p : ℕ) → within H (suc k) p q ≡ true → within H k p q ≡ true
     upto e p = ⊎-elim (λ (x : p < length H). e p x) (λ (x : length H ≤ p) h. again p (within-past H (suc k) p q x h)) (cases-lt p (length H))
 
 pub at-rest : (H : List Commit) (q : ℕ) → q < length H → Stable H (length H) q
 at-rest H q l = ⊎-elim (λ (s : Stable H (length H) q). s)
-  (λ (g : length H < size (λ p. within H (length H) p q) (length H)). absurd (let m : size (λ p. within H (length H) p q) (length H) ≤ length H = size-most (λ p. within H (length H) p q) (length H) in omega arith))
-  (growth H q (length H) l)
+    (λ (g : length H < size (λ p. within H (length H) p q) (length H)). absurd (let m : size (λ p. within H (length H) p q) (length H) ≤ length H = size-most (λ p. within H (length H) p q) (length H) in omega arith))
+    (growth H q (length H) l)
 
 pub reaches-itself : (H : List Commit) (p : ℕ) → reaches H p p ≡ true
 unfolding reaches

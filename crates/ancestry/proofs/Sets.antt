@@ -31,8 +31,8 @@ any-elim t (y ∷ ys) h = ⊎-elim (λ (e : t y ≡ true). (y, or-left (eqb y y)
 
 pub any-cong : (s t : ℕ → Bool) (xs : List ℕ) → ((x : ℕ) → member x xs ≡ true → s x ≡ t x) → any s xs ≡ any t xs
 any-cong s t xs h = same (any s xs) (any t xs)
-  (λ k. let r = any-elim s xs k in any-intro t (r .0) xs (r .1) (sym (h (r .0) (r .1)) ∙ r .2))
-  (λ k. let r = any-elim t xs k in any-intro s (r .0) xs (r .1) (h (r .0) (r .1) ∙ r .2))
+    (λ k. let r = any-elim s xs k in any-intro t (r .0) xs (r .1) (sym (h (r .0) (r .1)) ∙ r .2))
+    (λ k. let r = any-elim t xs k in any-intro s (r .0) xs (r .1) (h (r .0) (r .1) ∙ r .2))
 
 pub every-intro : (t : ℕ → Bool) (xs : List ℕ) → ((x : ℕ) → member x xs ≡ true → t x ≡ true) → every t xs ≡ true
 unfolding every member any
@@ -46,8 +46,8 @@ every-elim t (y ∷ ys) h x m = let r = and-parts (t y) (every t ys) h in ⊎-el
 
 pub every-cong : (s t : ℕ → Bool) (xs : List ℕ) → ((x : ℕ) → member x xs ≡ true → s x ≡ t x) → every s xs ≡ every t xs
 every-cong s t xs h = same (every s xs) (every t xs)
-  (λ k. every-intro t xs (λ x m. sym (h x m) ∙ every-elim s xs k x m))
-  (λ k. every-intro s xs (λ x m. h x m ∙ every-elim t xs k x m))
+    (λ k. every-intro t xs (λ x m. sym (h x m) ∙ every-elim s xs k x m))
+    (λ k. every-intro s xs (λ x m. h x m ∙ every-elim t xs k x m))
 
 pub keep-cong : (s t : ℕ → Bool) (xs : List ℕ) → ((x : ℕ) → member x xs ≡ true → s x ≡ t x) → keep s xs ≡ keep t xs
 unfolding keep member any
@@ -83,8 +83,8 @@ pub ordered-cong : (b d : ℕ → ℕ → Bool) (n : ℕ) → ((x y : ℕ) → x
 unfolding ordered
 ordered-cong b d zero e = refl
 ordered-cong b d (suc n) e =
-  let h : ordered b n ≡ ordered d n = ordered-cong b d n (λ x y k l. e x y (omega arith) (omega arith)) in
-  rw h (insert-cong b d n (ordered d n) (λ y m. let l : y < n = ltb-true y n (sym (member-ordered d y n) ∙ m) in e n y (omega arith) (omega arith)))
+    let h : ordered b n ≡ ordered d n = ordered-cong b d n (λ x y k l. e x y (omega arith) (omega arith)) in
+    rw h (insert-cong b d n (ordered d n) (λ y m. let l : y < n = ltb-true y n (sym (member-ordered d y n) ∙ m) in e n y (omega arith) (omega arith)))
 
 pub size-most : (t : ℕ → Bool) (n : ℕ) → size t n ≤ n
 unfolding size
@@ -95,18 +95,18 @@ pub size-mono : (s t : ℕ → Bool) (n : ℕ) → ((x : ℕ) → x < n → s x 
 unfolding size
 size-mono s t zero h = omega arith
 size-mono s t (suc n) h =
-  let k : size s n ≤ size t n = size-mono s t n (λ x l. h x (omega arith)) in
-  let e : s n ≡ true → t n ≡ true = h n (omega arith) in grind (arith, tells)
+    let k : size s n ≤ size t n = size-mono s t n (λ x l. h x (omega arith)) in
+    let e : s n ≡ true → t n ≡ true = h n (omega arith) in grind (arith, tells)
 
 pub size-less : (s t : ℕ → Bool) (n q : ℕ) → ((x : ℕ) → x < n → s x ≡ true → t x ≡ true) → q < n → s q ≡ false → t q ≡ true → size s n < size t n
 unfolding size
 size-less s t zero q h l a b = omega arith
 size-less s t (suc n) q h l a b = ⊎-elim
-  (λ (e : q ≡ n). let k : size s n ≤ size t n = size-mono s t n (λ x l. h x (omega arith)) in
+    (λ (e : q ≡ n). let k : size s n ≤ size t n = size-mono s t n (λ x l. h x (omega arith)) in
     let a′ : s n ≡ false = rw e at a in let b′ : t n ≡ true = rw e at b in rw (a′, b′) (omega arith))
-  (λ (ne : q ≡ n → ⊥). let k : size s n < size t n = size-less s t n q (λ x l. h x (omega arith)) (omega arith) a b in
+    (λ (ne : q ≡ n → ⊥). let k : size s n < size t n = size-less s t n q (λ x l. h x (omega arith)) (omega arith) a b in
     let e : s n ≡ true → t n ≡ true = h n (omega arith) in grind (arith, tells))
-  (cases-eq q n)
+    (cases-eq q n)
 
 pub size-cong : (s t : ℕ → Bool) (n : ℕ) → ((x : ℕ) → x < n → s x ≡ t x) → size s n ≡ size t n
 unfolding size
@@ -118,8 +118,8 @@ pub size-one-more : (s t : ℕ → Bool) (n q : ℕ) → q < n → s q ≡ false
 unfolding size
 size-one-more s t zero q l a b h = absurd (omega arith)
 size-one-more s t (suc n) q l a b h = ⊎-elim
-  (λ (e : q ≡ n). let k : size s n ≡ size t n = size-cong s t n (λ x l. h x (omega arith) (omega arith)) in
+    (λ (e : q ≡ n). let k : size s n ≡ size t n = size-cong s t n (λ x l. h x (omega arith) (omega arith)) in
     let a′ : s n ≡ false = rw e at a in let b′ : t n ≡ true = rw e at b in rw (a′, b′) (omega arith))
-  (λ (ne : q ≡ n → ⊥). let k : size t n ≡ size s n + 1 = size-one-more s t n q (omega arith) a b (λ x l. h x (omega arith)) in
+    (λ (ne : q ≡ n → ⊥). let k : size t n ≡ size s n + 1 = size-one-more s t n q (omega arith) a b (λ x l. h x (omega arith)) in
     let e : s n ≡ t n = h n (omega arith) (λ z. ne (sym z)) in rw e (omega arith))
-  (cases-eq q n)
+    (cases-eq q n)

@@ -63,13 +63,13 @@ module _ (b : ℕ → ℕ → Bool) (irr : (x : ℕ) → b x x ≡ false) (asym 
   unique [] (y ∷ ys) s t f g = absurd (member-nil y (g y (member-here y ys)))
   unique (x ∷ xs) [] s t f g = absurd (member-nil x (f x (member-here x xs)))
   unique (x ∷ xs) (y ∷ ys) s t f g =
-    let e : x ≡ y = ⊎-elim (λ (k : eqb x y ≡ true). eqb-true x y k)
-          (λ (k : member x ys ≡ true). ⊎-elim (λ (l : eqb y x ≡ true). sym (eqb-true y x l)) (λ (l : member y xs ≡ true). absurd (both-ways (b y x) (asym x y (s .0 y l)) (t .0 x k))) (member-cons y x xs (g y (member-here y ys))))
-          (member-cons x y ys (f x (member-here x xs))) in
-    let r : xs ≡ ys = unique xs ys (s .1) (t .1)
-          (λ z m. ⊎-elim (λ (k : eqb z y ≡ true). absurd (both-ways (b x z) (subst (λ (u : ℕ). b x u ≡ false) (e ∙ sym (eqb-true z y k)) (irr x)) (s .0 z m))) (λ (k : member z ys ≡ true). k) (member-cons z y ys (f z (member-there z x xs m))))
-          (λ z m. ⊎-elim (λ (k : eqb z x ≡ true). absurd (both-ways (b y z) (subst (λ (u : ℕ). b y u ≡ false) (sym e ∙ sym (eqb-true z x k)) (irr y)) (t .0 z m))) (λ (k : member z xs ≡ true). k) (member-cons z x xs (g z (member-there z y ys m)))) in
-    rw (e, r)
+      let e : x ≡ y = ⊎-elim (λ (k : eqb x y ≡ true). eqb-true x y k)
+      (λ (k : member x ys ≡ true). ⊎-elim (λ (l : eqb y x ≡ true). sym (eqb-true y x l)) (λ (l : member y xs ≡ true). absurd (both-ways (b y x) (asym x y (s .0 y l)) (t .0 x k))) (member-cons y x xs (g y (member-here y ys))))
+      (member-cons x y ys (f x (member-here x xs))) in
+      let r : xs ≡ ys = unique xs ys (s .1) (t .1)
+      (λ z m. ⊎-elim (λ (k : eqb z y ≡ true). absurd (both-ways (b x z) (subst (λ (u : ℕ). b x u ≡ false) (e ∙ sym (eqb-true z y k)) (irr x)) (s .0 z m))) (λ (k : member z ys ≡ true). k) (member-cons z y ys (f z (member-there z x xs m))))
+      (λ z m. ⊎-elim (λ (k : eqb z x ≡ true). absurd (both-ways (b y z) (subst (λ (u : ℕ). b y u ≡ false) (sym e ∙ sym (eqb-true z x k)) (irr y)) (t .0 z m))) (λ (k : member z xs ≡ true). k) (member-cons z x xs (g z (member-there z y ys m)))) in
+      rw (e, r)
 
 pub keep-strict : (b : ℕ → ℕ → Bool) (t : ℕ → Bool) (xs : List ℕ) → Strict b xs → Strict b (keep t xs)
 unfolding keep
@@ -96,15 +96,21 @@ module _ (b : ℕ → ℕ → Bool) (tr : (x y z : ℕ) → b x y ≡ true → b
   ordered-strict (suc n) o = insert-strict n (ordered b n) (λ y m k. let l : y < n = ltb-true y n (sym (member-ordered b y n) ∙ m) in o n y (omega arith) (omega arith) (λ e. omega arith) k) (ordered-strict n (λ x y k l. o x y (omega arith) (omega arith)))
 
 pub best-law : Best-law
-best-law H L S = (is, λ r R. unique b (λ x. better-irrefl (at H x)) (λ x y. better-asym (at H x) (at H y)) r (best H S) (R .sorted) (is .sorted)
-    (λ z m. let x = R .only z m in is .all z (x .0) (x .1) (x .2)) (λ z m. let x = is .only z m in R .all z (x .0) (x .1) (x .2)))
+best-law H L S = (
+  is,
+  λ r R. unique b (λ x. better-irrefl (at H x)) (λ x y. better-asym (at H x) (at H y)) r (best H S) (R .sorted) (is .sorted)
+      (λ z m. let x = R .only z m in is .all z (x .0) (x .1) (x .2)) (λ z m. let x = is .only z m in R .all z (x .0) (x .1) (x .2)),
+)
   where
     b : ℕ → ℕ → Bool
     b p q = better (at H p) (at H q)
+
     strict : Strict b (best H S)
     strict = unfold best ranked in keep-strict b (λ p. S p && unreached H S p) (ordered b (length H)) (ordered-strict b (λ x y z. better-trans (at H x) (at H y) (at H z)) (length H) (λ x y k l n. better-total (at H x) (at H y) (λ e. n (L .apart x y k l e))))
+
     is : Is-best H S (best H S)
-    is = record
-      { all = λ p l s u. best-intro H S p l s (λ q k t r. u q k t (reaches-sound H q p r))
-      ; only = λ p m. let c = best-elim H S p m in (c .below, c .of, λ q k t r. c .alone q k t (reaches-complete H p (c .below) r))
-      ; sorted = strict }
+    is = record {
+      all = λ p l s u. best-intro H S p l s (λ q k t r. u q k t (reaches-sound H q p r));
+      only = λ p m. let c = best-elim H S p m in (c .below, c .of, λ q k t r. c .alone q k t (reaches-complete H p (c .below) r));
+      sorted = strict;
+    }

@@ -95,56 +95,56 @@ All-right (c ∷ cs) = Right c × All-right cs
 abbrev pub first-half : List Case
 first-half =
     bases-are K 1 (2 ∷ []) (25 ∷ 24 ∷ [])
-  ∷ bases-are K 2 (1 ∷ []) (25 ∷ 24 ∷ [])
-  ∷ bases-are K 1 [] (1 ∷ [])
-  ∷ bases-are K 1 (2 ∷ 1 ∷ []) (1 ∷ [])
-  ∷ bases-are K 1 (2 ∷ 3 ∷ []) (25 ∷ 24 ∷ [])
-  ∷ octopus-is K 1 (2 ∷ 3 ∷ []) (Some 24)
-  ∷ octopus-is K 1 (3 ∷ 2 ∷ []) (Some 24)
-  ∷ described K (asks (24 ∷ 25 ∷ []) 10 false) 1 (named 1 2 4)
-  ∷ described K (asks (24 ∷ 25 ∷ []) 1 false) 1 (named 1 2 4)
-  ∷ described K (asks (24 ∷ 25 ∷ []) 0 true) 1 (bare 0)
-  ∷ described K (asks (24 ∷ 25 ∷ []) 0 false) 24 (named 0 0 0)
-  ∷ bases-are S 7 (8 ∷ []) (16 ∷ [])
-  ∷ []
+    ∷ bases-are K 2 (1 ∷ []) (25 ∷ 24 ∷ [])
+    ∷ bases-are K 1 [] (1 ∷ [])
+    ∷ bases-are K 1 (2 ∷ 1 ∷ []) (1 ∷ [])
+    ∷ bases-are K 1 (2 ∷ 3 ∷ []) (25 ∷ 24 ∷ [])
+    ∷ octopus-is K 1 (2 ∷ 3 ∷ []) (Some 24)
+    ∷ octopus-is K 1 (3 ∷ 2 ∷ []) (Some 24)
+    ∷ described K (asks (24 ∷ 25 ∷ []) 10 false) 1 (named 1 2 4)
+    ∷ described K (asks (24 ∷ 25 ∷ []) 1 false) 1 (named 1 2 4)
+    ∷ described K (asks (24 ∷ 25 ∷ []) 0 true) 1 (bare 0)
+    ∷ described K (asks (24 ∷ 25 ∷ []) 0 false) 24 (named 0 0 0)
+    ∷ bases-are S 7 (8 ∷ []) (16 ∷ [])
+    ∷ []
 
 abbrev pub second-half : List Case
 second-half =
     -- the first name found is not the nearest: choosing it gives a, depth 4
     described Fork (asks (1 ∷ 2 ∷ []) 10 false) 20 (named 1 2 6)
     -- of equal keys the lower id is better: the higher gives y, x
-  ∷ bases-are Tied 1 (2 ∷ []) (24 ∷ 25 ∷ [])
+    ∷ bases-are Tied 1 (2 ∷ []) (24 ∷ 25 ∷ [])
     -- an absent generation is above every present one: as 0 it gives y, x
-  ∷ bases-are Absent 1 (2 ∷ []) (24 ∷ 25 ∷ [])
+    ∷ bases-are Absent 1 (2 ∷ []) (24 ∷ 25 ∷ [])
     -- the generation comes before the date: by date alone y, x
-  ∷ bases-are Levels 1 (2 ∷ []) (24 ∷ 25 ∷ [])
+    ∷ bases-are Levels 1 (2 ∷ []) (24 ∷ 25 ∷ [])
     -- a stale base is dropped however long the way to it: a way of two parents at most keeps q beside p
-  ∷ bases-are Long 7 (8 ∷ []) (16 ∷ [])
-    -- an id that is not held is passed over among the others: as reaching nothing that counts against all it gives none
-  ∷ bases-are K 1 (99 ∷ 2 ∷ []) (25 ∷ 24 ∷ [])
+    ∷ bases-are Long 7 (8 ∷ []) (16 ∷ [])
+    -- an id that is not held is passed over among the others: held against them all it gives none
+    ∷ bases-are K 1 (99 ∷ 2 ∷ []) (25 ∷ 24 ∷ [])
     -- `first` among the others is its own base, held or not: by reaching alone none
-  ∷ bases-are K 99 (99 ∷ []) (99 ∷ [])
+    ∷ bases-are K 99 (99 ∷ []) (99 ∷ [])
     -- for the octopus an id that is not held reaches nothing: passed over it gives y
-  ∷ octopus-is K 1 (2 ∷ 99 ∷ []) None
+    ∷ octopus-is K 1 (2 ∷ 99 ∷ []) None
     -- the octopus of one commit is that commit, held or not: by reaching alone none
-  ∷ octopus-is K 99 (99 ∷ 99 ∷ []) (Some 99)
-    -- by first parents x is not reached from a second parent's place: by all parents y, which is nearer
-  ∷ described K (asks-first (24 ∷ 25 ∷ []) 10 false) 1 (named 0 1 2)
+    ∷ octopus-is K 99 (99 ∷ 99 ∷ []) (Some 99)
+    -- by first parents a comes to x and never to y: by all parents the name is y, depth 2
+    ∷ described K (asks-first (24 ∷ 25 ∷ []) 10 false) 1 (named 0 1 2)
     -- the bare id comes with the number seen by the walk: 0 seen is invented
-  ∷ described K (asks (99 ∷ []) 10 true) 1 (bare 4)
+    ∷ described K (asks (99 ∷ []) 10 true) 1 (bare 4)
     -- without the fallback a walk that finds no name gives none: the bare id was not asked for
-  ∷ described K (asks (99 ∷ []) 10 false) 1 nothing
+    ∷ described K (asks (99 ∷ []) 10 false) 1 nothing
     -- the walk stops early where nothing waits and the nearest name is behind: going on sees 4
-  ∷ described Line (asks (14 ∷ []) 10 false) 20 (named 0 1 2)
+    ∷ described Line (asks (14 ∷ []) 10 false) 20 (named 0 1 2)
     -- the finishing walk stops only when all that wait have the mark: stopping at the first marked gives depth 2, seen 4
-  ∷ described Wide (asks (1 ∷ 2 ∷ []) 1 false) 20 (named 0 3 5)
+    ∷ described Wide (asks (1 ∷ 2 ∷ []) 1 false) 20 (named 0 3 5)
     -- of equal dates the lower id is taken first: the higher gives b
-  ∷ described Twins (asks (1 ∷ 2 ∷ []) 10 false) 20 (named 0 2 3)
+    ∷ described Twins (asks (1 ∷ 2 ∷ []) 10 false) 20 (named 0 2 3)
     -- more than 32 candidates count as 32: with 33 the walk sees 35
-  ∷ described Ladder (asks (counting 101 33) 33 false) 20 (named 0 1 34)
+    ∷ described Ladder (asks (counting 101 33) 33 false) 20 (named 0 1 34)
     -- a named start is its own answer, held or not: by its place it has none
-  ∷ described K (asks (24 ∷ 99 ∷ []) 10 false) 99 (named 1 0 0)
-  ∷ []
+    ∷ described K (asks (24 ∷ 99 ∷ []) 10 false) 99 (named 1 0 0)
+    ∷ []
 
 abbrev pub Table : Type 0
 Table = All-right first-half × All-right second-half

@@ -17,12 +17,26 @@ pub record Finish : Type 0 where
 
 -- the commit set aside, if one was, waits again, and is not counted as seen
 unfoldable pub returned : Option ℕ → Walk → Walk
-returned None w = record
-  { waiting = w .waiting; met = w .met; marks = w .marks; seen = w .seen
-  ; found = w .found; counts = w .counts; aside = None; over = false }
-returned (Some p) w = record
-  { waiting = λ q. w .waiting q || eqb q p; met = w .met; marks = w .marks; seen = w .seen - 1
-  ; found = w .found; counts = w .counts; aside = None; over = false }
+returned None w = record {
+  waiting = w .waiting;
+  met = w .met;
+  marks = w .marks;
+  seen = w .seen;
+  found = w .found;
+  counts = w .counts;
+  aside = None;
+  over = false;
+}
+returned (Some p) w = record {
+  waiting = λ q. w .waiting q || eqb q p;
+  met = w .met;
+  marks = w .marks;
+  seen = w .seen - 1;
+  found = w .found;
+  counts = w .counts;
+  aside = None;
+  over = false;
+}
 
 unfoldable pub back : Walk → Walk
 back w = returned (w .aside) w
@@ -34,8 +48,8 @@ finish-turn H a m None f = record { state = ended (f .state); depth = f .depth }
 finish-turn H a m (Some p) f =
     let w : Walk = taken p (f .state) in
     cond (w .marks p m && every (λ q. not (w .waiting q) || w .marks q m) (by-date H))
-      (record { state = ended w; depth = f .depth })
-      (record { state = handed p (followed H a p) w; depth = cond (w .marks p m) (f .depth) (f .depth + 1) })
+    (record { state = ended w; depth = f .depth })
+    (record { state = handed p (followed H a p) w; depth = cond (w .marks p m) (f .depth) (f .depth + 1) })
 
 unfoldable pub finish-step : List Commit → Asked → ℕ → Bool → Finish → Finish
 finish-step H a m true f = f

@@ -53,40 +53,81 @@ has-least has (n ∷ ns) = has-all (least n ns) has 0 (n ∷ ns)
 
 -- step 1: p no longer waits, and is counted
 unfoldable pub taken : ℕ → Walk → Walk
-taken p w = record
-  { waiting = λ q. w .waiting q && not (eqb q p); met = w .met; marks = w .marks; seen = w .seen + 1
-  ; found = w .found; counts = w .counts; aside = w .aside; over = w .over }
+taken p w = record {
+  waiting = λ q. w .waiting q && not (eqb q p);
+  met = w .met;
+  marks = w .marks;
+  seen = w .seen + 1;
+  found = w .found;
+  counts = w .counts;
+  aside = w .aside;
+  over = w .over;
+}
 
 -- step 2: p becomes a candidate for the name k
 unfoldable pub adopted : ℕ → ℕ → Walk → Walk
-adopted p k w = record
-  { waiting = w .waiting; met = w .met; marks = λ q m. w .marks q m || (eqb q p && eqb m (length (w .found))); seen = w .seen
-  ; found = w .found ++ k ∷ []; counts = w .counts ++ (w .seen - 1) ∷ []; aside = w .aside; over = w .over }
+adopted p k w = record {
+  waiting = w .waiting;
+  met = w .met;
+  marks = λ q m. w .marks q m || (eqb q p && eqb m (length (w .found)));
+  seen = w .seen;
+  found = w .found ++ k ∷ [];
+  counts = w .counts ++ (w .seen - 1) ∷ [];
+  aside = w .aside;
+  over = w .over;
+}
 
 -- or, with no candidate free, is set aside, and the walk stops
 unfoldable pub set-aside : ℕ → Walk → Walk
-set-aside p w = record
-  { waiting = w .waiting; met = w .met; marks = w .marks; seen = w .seen
-  ; found = w .found; counts = w .counts; aside = Some p; over = true }
+set-aside p w = record {
+  waiting = w .waiting;
+  met = w .met;
+  marks = w .marks;
+  seen = w .seen;
+  found = w .found;
+  counts = w .counts;
+  aside = Some p;
+  over = true;
+}
 
 -- step 3: each candidate whose mark p lacks gains 1
 unfoldable pub counted : ℕ → Walk → Walk
-counted p w = record
-  { waiting = w .waiting; met = w .met; marks = w .marks; seen = w .seen
-  ; found = w .found; counts = gains (w .marks p) 0 (w .counts); aside = w .aside; over = w .over }
+counted p w = record {
+  waiting = w .waiting;
+  met = w .met;
+  marks = w .marks;
+  seen = w .seen;
+  found = w .found;
+  counts = gains (w .marks p) 0 (w .counts);
+  aside = w .aside;
+  over = w .over;
+}
 
 -- the walk stops
 unfoldable pub ended : Walk → Walk
-ended w = record
-  { waiting = w .waiting; met = w .met; marks = w .marks; seen = w .seen
-  ; found = w .found; counts = w .counts; aside = w .aside; over = true }
+ended w = record {
+  waiting = w .waiting;
+  met = w .met;
+  marks = w .marks;
+  seen = w .seen;
+  found = w .found;
+  counts = w .counts;
+  aside = w .aside;
+  over = true;
+}
 
 -- step 5: p's marks go to the parents followed, and one never met waits
 unfoldable pub handed : ℕ → List ℕ → Walk → Walk
-handed p ps w = record
-  { waiting = λ q. w .waiting q || (member q ps && not (w .met q)); met = λ q. w .met q || member q ps
-  ; marks = λ q m. w .marks q m || (member q ps && w .marks p m); seen = w .seen
-  ; found = w .found; counts = w .counts; aside = w .aside; over = w .over }
+handed p ps w = record {
+  waiting = λ q. w .waiting q || (member q ps && not (w .met q));
+  met = λ q. w .met q || member q ps;
+  marks = λ q m. w .marks q m || (member q ps && w .marks p m);
+  seen = w .seen;
+  found = w .found;
+  counts = w .counts;
+  aside = w .aside;
+  over = w .over;
+}
 
 -- steps 4 and 5: stop if nothing waits and p has the mark of every candidate of smallest count, else hand on
 unfoldable pub onward : List Commit → Asked → ℕ → Walk → Walk
@@ -119,6 +160,13 @@ walk H a (suc k) w = walk H a k (turn H a (w .over) w)
 
 -- at first the start waits, unmarked
 unfoldable pub at-start : ℕ → Walk
-at-start s = record
-  { waiting = λ q. eqb q s; met = λ q. eqb q s; marks = λ q m. false; seen = 0
-  ; found = []; counts = []; aside = None; over = false }
+at-start s = record {
+  waiting = λ q. eqb q s;
+  met = λ q. eqb q s;
+  marks = λ q m. false;
+  seen = 0;
+  found = [];
+  counts = [];
+  aside = None;
+  over = false;
+}

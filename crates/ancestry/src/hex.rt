@@ -8,7 +8,22 @@ use crate::id::Id;
 
 /// The sixteen letters of hexadecimal digits.
 const LETTERS: [u8; 16] = [
-    b'0', b'1', b'2', b'3', b'4', b'5', b'6', b'7', b'8', b'9', b'a', b'b', b'c', b'd', b'e', b'f',
+    b'0',
+    b'1',
+    b'2',
+    b'3',
+    b'4',
+    b'5',
+    b'6',
+    b'7',
+    b'8',
+    b'9',
+    b'a',
+    b'b',
+    b'c',
+    b'd',
+    b'e',
+    b'f',
 ];
 
 impl Id {

@@ -5,8 +5,7 @@ ghost use Rattle.ancestry.specs.Theorems.{Id-law, Hex-law, Place-law, Reaching
 /// The table of misleading histories: every question has the answer that stands beside it.
 pub fn table_stands()
     ensures { λ _. ⌜ Table ⌝ }
-{
-}
+{}
 
 /// The laws of ids, of reaching, of best sets and merge bases, of growth, and of names.
 pub fn laws_stand()
@@ -22,5 +21,4 @@ pub fn laws_stand()
     ensures intake { λ _. ⌜ Intake-law ⌝ }
     ensures unchanged { λ _. ⌜ Unchanged-law ⌝ }
     ensures nearest { λ _. ⌜ Nearest-law ⌝ }
-{
-}
+{}

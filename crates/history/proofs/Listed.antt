@@ -31,16 +31,16 @@ module _ {N : ℕ} (t : Table N) (tidy : Tidy t) where
   pub listed-at : (p : ℕ) (d : Row) → p < t .len → at (listed t) p ≡ commit-of (getD (t .rows) p d)
   unfolding at
   listed-at p d h =
-    let l : p < length (take (t .len) (t .rows)) = omega (arith, length-take-le (t .len) (t .rows) long) in
-    getD-map commit-of (take (t .len) (t .rows)) p d nobody l ∙ ap commit-of (getD-take (t .len) (t .rows) p d h)
+      let l : p < length (take (t .len) (t .rows)) = omega (arith, length-take-le (t .len) (t .rows) long) in
+      getD-map commit-of (take (t .len) (t .rows)) p d nobody l ∙ ap commit-of (getD-take (t .len) (t .rows) p d h)
 
   pub neat-at : (p : ℕ) (d : Row) → p < t .len → Neat (getD (t .rows) p d)
   neat-at p d h = all-getD Neat (t .rows) p d (omega (arith, tidy .within, tidy .filled)) (tidy .neat)
 
   own : (p : ℕ) → p < t .len → length (take (getD (t .rows) p blank .count) (getD (t .rows) p blank .parents)) ≡ getD (t .rows) p blank .count
   own p h =
-    let s : Neat (getD (t .rows) p blank) = neat-at p blank h in
-    length-take-le _ _ (omega (arith, s .few, s .sixteen))
+      let s : Neat (getD (t .rows) p blank) = neat-at p blank h in
+      length-take-le _ _ (omega (arith, s .few, s .sixteen))
 
   parents-at : (p : ℕ) → p < t .len → parents-of (listed t) p ≡ take (getD (t .rows) p blank .count) (getD (t .rows) p blank .parents)
   parents-at p h = ap (λ (d : Commit). d .parents) (listed-at p blank h)
@@ -56,7 +56,7 @@ module _ {N : ℕ} (t : Table N) (tidy : Tidy t) where
 
   pub parent-some : (p n : ℕ) → p < t .len → n < getD (t .rows) p blank .count → Some (getD (getD (t .rows) p blank .parents) n 0) ≡ nth (parents-of (listed t) p) n
   parent-some p n h k = sym (ap (λ (ps : List ℕ). nth ps n) (parents-at p h) ∙ nth-getD _ n 0 (omega (arith, own p h, k))
-    ∙ ap Some (getD-take (getD (t .rows) p blank .count) (getD (t .rows) p blank .parents) n 0 k))
+      ∙ ap Some (getD-take (getD (t .rows) p blank .count) (getD (t .rows) p blank .parents) n 0 k))
 
   abbrev pushed : Row → Table N
   pushed r = record { len = t .len + 1; rows = set (t .rows) (t .len) r }
@@ -71,5 +71,5 @@ module _ {N : ℕ} (t : Table N) (tidy : Tidy t) where
 
     pub listed-push : listed (pushed r) ≡ listed t ++ commit-of r ∷ []
     listed-push =
-      ap (map commit-of) (take-more-set (t .rows) (t .len) r (omega (arith, tidy .filled)))
-      ∙ map-push commit-of (take (t .len) (t .rows)) r
+        ap (map commit-of) (take-more-set (t .rows) (t .len) r (omega (arith, tidy .filled)))
+        ∙ map-push commit-of (take (t .len) (t .rows)) r

@@ -61,7 +61,7 @@ exceeds-none H g p l = sym (ap (λ (b : Bool). b && ltb g (rank (at H p .generat
 pub exceeds-some : (H : List Commit) (g p : ℕ) (e : Entry) → Reads H p (Some e) → ltb g (rank (e .generation)) ≡ exceeds H g p
 unfolding exceeds
 exceeds-some H g p e r = sym (ap (λ (b : Bool). b && ltb g (rank (at H p .generation))) (lt-ltb p (length H) (r .held))
-  ∙ ap (λ (o : Option ℕ). ltb g (rank o)) (sym (r .generation)))
+    ∙ ap (λ (o : Option ℕ). ltb g (rank o)) (sym (r .generation)))
 
 pub any-nil : (t : ℕ → Bool) → any t [] ≡ false
 unfolding any
@@ -69,12 +69,12 @@ any-nil t = refl
 
 -- the refusal by its seven tests
 pub by-tests : (room : ℕ) (H : List Commit) (i : Id) (g : Option ℕ) (z : ℤ) (ps : List ℕ) (date high many held parent rises full : Bool)
-  → in-range z ≡ not date → too-high g ≡ high → ltb 16 (length ps) ≡ many → not (absent (place-of H (num i))) ≡ held
-  → any (λ p. leb (length H) p) ps ≡ parent → any (exceeds H (rank g)) ps ≡ rises → eqb (length H) room ≡ full
-  → pick date high many held parent rises full ≡ refusal room H (offered i g z ps)
+    → in-range z ≡ not date → too-high g ≡ high → ltb 16 (length ps) ≡ many → not (absent (place-of H (num i))) ≡ held
+    → any (λ p. leb (length H) p) ps ≡ parent → any (exceeds H (rank g)) ps ≡ rises → eqb (length H) room ≡ full
+    → pick date high many held parent rises full ≡ refusal room H (offered i g z ps)
 unfolding applies
 by-tests room H i g z ps date high many held parent rises full p q r s t u v =
-  sym (refusal-pick room H (offered i g z ps) date high many held parent rises full (ap not p ∙ twice date) q r s t u v)
+    sym (refusal-pick room H (offered i g z ps) date high many held parent rises full (ap not p ∙ twice date) q r s t u v)
   where
     twice : (b : Bool) → not (not b) ≡ b
     twice true = refl

@@ -1,14 +1,14 @@
 ghost use mathlib.Core.Path.{_≡_};
 ghost use mathlib.Core.List.{List, []};
 ghost use Rattle.history.specs.Tables.{listed, Stored};
-use ancestry::Id;
-use ancestry::Refusal;
 use crate::grow::History;
 use crate::reader::Entry;
 use crate::reader::Reader;
-use crate::verdict::refuses;
 use crate::table::Row;
 use crate::table::Table;
+use crate::verdict::refuses;
+use ancestry::Id;
+use ancestry::Refusal;
 
 const CAPACITY: usize = 512;
 
@@ -24,7 +24,9 @@ impl Rows {
         ensures whole { λ r. ⌜ Stored 512 (r .table) ⌝ }
         ensures empty { λ r. ⌜ listed (r .table) ≡ [] ⌝ }
     {
-        Rows { table: Table::new() }
+        Rows {
+            table: Table::new(),
+        }
     }
 }
 
@@ -59,7 +61,13 @@ pub impl Reader for Rows as RowsReader {
 }
 
 pub impl History for Rows as RowsHistory {
-    fn intake(&mut self, id: Id, generation: Option<u32>, date: i64, parents: &[usize]) -> Result<usize, Refusal> {
+    fn intake(
+        &mut self,
+        id: Id,
+        generation: Option<u32>,
+        date: i64,
+        parents: &[usize],
+    ) -> Result<usize, Refusal> {
         if let Some(refusal) = refuses(self, id, generation, date, parents) {
             return Err(refusal);
         }

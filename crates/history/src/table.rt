@@ -8,8 +8,8 @@ ghost use Rattle.ancestry.specs.Intake.{offered};
 ghost use Rattle.ancestry.specs.Numbers.{num};
 ghost use Rattle.history.specs.Meaning.{Reads};
 ghost use Rattle.history.specs.Tables.{commit-of, listed, Tidy, Neat};
-use ancestry::Id;
 use crate::reader::Entry;
+use ancestry::Id;
 
 // One commit as it is stored: the first `count` of the parents are its own.
 #[derive(Clone, Copy)]

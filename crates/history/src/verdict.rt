@@ -8,9 +8,9 @@ ghost use Rattle.ancestry.specs.Keys.{rank};
 ghost use Rattle.ancestry.specs.Commits.{place-of};
 ghost use Rattle.ancestry.specs.Intake.{offered, in-range, too-high, exceeds, refusal};
 ghost use Rattle.history.specs.Meaning.{Same};
+use crate::reader::Reader;
 use ancestry::Id;
 use ancestry::Refusal;
-use crate::reader::Reader;
 
 const OLDEST: i64 = -17_179_869_184;
 
@@ -23,7 +23,13 @@ const MAX_PARENTS: usize = 16;
 /// Why the commit would be refused: the lowest refusal that applies, or none. Nothing is taken in.
 ///
 /// Every intake asks this first, whatever the history.
-pub fn refuses<H: Reader>(history: &mut H, id: Id, generation: Option<u32>, date: i64, parents: &[usize]) -> Option<Refusal>
+pub fn refuses<H: Reader>(
+    history: &mut H,
+    id: Id,
+    generation: Option<u32>,
+    date: i64,
+    parents: &[usize],
+) -> Option<Refusal>
     requires { ⌜ whole (now history) ⌝ }
     ensures same { λ _. ⌜ Same whole commits room (now (history .entry)) (now (history .exit)) ⌝ }
     ensures answer { λ r. ⌜ r ≡ refusal (room (now (history .entry))) (commits (now (history .entry))) (offered id generation date (now (parents .entry))) ⌝ }

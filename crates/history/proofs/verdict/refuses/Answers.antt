@@ -27,13 +27,13 @@ returns-then-not-in-range g c =
     record {
       same = same-self h (c .pre);
       answer = by-tests (g .H·Reader .room h) H (c .args .id) (c .args .generation) (c .args .date) ps true _ _ _ _ _ _
-        e0
-        refl
-        refl
-        refl
-        refl
-        refl
-        refl;
+          e0
+          refl
+          refl
+          refl
+          refl
+          refl
+          refl;
     }
 
 pub returns-then-too-high : need.returns-then-too-high
@@ -46,13 +46,13 @@ returns-then-too-high g c =
     record {
       same = same-self h (c .pre);
       answer = by-tests (g .H·Reader .room h) H (c .args .id) (c .args .generation) (c .args .date) ps false true _ _ _ _ _
-        e0
-        (sym (c .too-high .ensures) ∙ c .if-too-high .taken)
-        refl
-        refl
-        refl
-        refl
-        refl;
+          e0
+          (sym (c .too-high .ensures) ∙ c .if-too-high .taken)
+          refl
+          refl
+          refl
+          refl
+          refl;
     }
 
 pub returns-then-parents-gt-MAX-PARENTS : need.returns-then-parents-gt-MAX-PARENTS
@@ -65,13 +65,13 @@ returns-then-parents-gt-MAX-PARENTS g c =
     record {
       same = same-self h (c .pre);
       answer = by-tests (g .H·Reader .room h) H (c .args .id) (c .args .generation) (c .args .date) ps false false true _ _ _ _
-        e0
-        (sym (c .too-high .ensures) ∙ c .if-too-high .left)
-        (lt-ltb _ _ (c .if-parents-gt-MAX-PARENTS .taken))
-        refl
-        refl
-        refl
-        refl;
+          e0
+          (sym (c .too-high .ensures) ∙ c .if-too-high .left)
+          (lt-ltb _ _ (c .if-parents-gt-MAX-PARENTS .taken))
+          refl
+          refl
+          refl
+          refl;
     }
 
 pub returns-then-is-some : need.returns-then-is-some
@@ -84,13 +84,13 @@ returns-then-is-some g c =
     record {
       same = c .find .ensures .same;
       answer = by-tests (g .H·Reader .room h) H (c .args .id) (c .args .generation) (c .args .date) ps false false false true _ _ _
-        e0
-        (sym (c .too-high .ensures) ∙ c .if-too-high .left)
-        (le-ltb _ _ (c .if-parents-gt-MAX-PARENTS .left))
-        (sym (c .is-some .ensures ∙ ap isSome (c .find .ensures .answer) ∙ some-present (place-of H (num (c .args .id)))) ∙ c .if-is-some .taken)
-        refl
-        refl
-        refl;
+          e0
+          (sym (c .too-high .ensures) ∙ c .if-too-high .left)
+          (le-ltb _ _ (c .if-parents-gt-MAX-PARENTS .left))
+          (sym (c .is-some .ensures ∙ ap isSome (c .find .ensures .answer) ∙ some-present (place-of H (num (c .args .id)))) ∙ c .if-is-some .taken)
+          refl
+          refl
+          refl;
     }
 
 pub returns-then-no-such : need.returns-then-no-such
@@ -103,13 +103,13 @@ returns-then-no-such g c =
     record {
       same = same-then (c .find .ensures .same) (c .no-such .ensures .same);
       answer = by-tests (g .H·Reader .room h) H (c .args .id) (c .args .generation) (c .args .date) ps false false false false true _ _
-        e0
-        (sym (c .too-high .ensures) ∙ c .if-too-high .left)
-        (le-ltb _ _ (c .if-parents-gt-MAX-PARENTS .left))
-        (sym (c .is-some .ensures ∙ ap isSome (c .find .ensures .answer) ∙ some-present (place-of H (num (c .args .id)))) ∙ c .if-is-some .left)
-        (sym (c .no-such .ensures .answer ∙ ap (λ (x : List Commit). any (λ p. leb (length x) p) ps) (c .find .ensures .same .list)) ∙ c .if-no-such .taken)
-        refl
-        refl;
+          e0
+          (sym (c .too-high .ensures) ∙ c .if-too-high .left)
+          (le-ltb _ _ (c .if-parents-gt-MAX-PARENTS .left))
+          (sym (c .is-some .ensures ∙ ap isSome (c .find .ensures .answer) ∙ some-present (place-of H (num (c .args .id)))) ∙ c .if-is-some .left)
+          (sym (c .no-such .ensures .answer ∙ ap (λ (x : List Commit). any (λ p. leb (length x) p) ps) (c .find .ensures .same .list)) ∙ c .if-no-such .taken)
+          refl
+          refl;
     }
 
 pub returns-then-rises : need.returns-then-rises
@@ -123,13 +123,13 @@ returns-then-rises g c =
     record {
       same = same-then s5 (c .rises .ensures .same);
       answer = by-tests (g .H·Reader .room h) H (c .args .id) (c .args .generation) (c .args .date) ps false false false false false true _
-        e0
-        (sym (c .too-high .ensures) ∙ c .if-too-high .left)
-        (le-ltb _ _ (c .if-parents-gt-MAX-PARENTS .left))
-        (sym (c .is-some .ensures ∙ ap isSome (c .find .ensures .answer) ∙ some-present (place-of H (num (c .args .id)))) ∙ c .if-is-some .left)
-        (sym (c .no-such .ensures .answer ∙ ap (λ (x : List Commit). any (λ p. leb (length x) p) ps) (c .find .ensures .same .list)) ∙ c .if-no-such .left)
-        (sym (c .rises .ensures .answer ∙ ap (λ (x : List Commit). any (exceeds x (c .rank .result)) ps) (s5 .list) ∙ ap (λ (n : ℕ). any (exceeds H n) ps) (c .rank .ensures)) ∙ c .if-rises .taken)
-        refl;
+          e0
+          (sym (c .too-high .ensures) ∙ c .if-too-high .left)
+          (le-ltb _ _ (c .if-parents-gt-MAX-PARENTS .left))
+          (sym (c .is-some .ensures ∙ ap isSome (c .find .ensures .answer) ∙ some-present (place-of H (num (c .args .id)))) ∙ c .if-is-some .left)
+          (sym (c .no-such .ensures .answer ∙ ap (λ (x : List Commit). any (λ p. leb (length x) p) ps) (c .find .ensures .same .list)) ∙ c .if-no-such .left)
+          (sym (c .rises .ensures .answer ∙ ap (λ (x : List Commit). any (exceeds x (c .rank .result)) ps) (s5 .list) ∙ ap (λ (n : ℕ). any (exceeds H n) ps) (c .rank .ensures)) ∙ c .if-rises .taken)
+          refl;
     }
 
 pub returns-then-count-capacity : need.returns-then-count-capacity
@@ -147,13 +147,13 @@ returns-then-count-capacity g c =
     record {
       same = same-then s7 (c .capacity .ensures .same);
       answer = by-tests (g .H·Reader .room h) H (c .args .id) (c .args .generation) (c .args .date) ps false false false false false false true
-        e0
-        (sym (c .too-high .ensures) ∙ c .if-too-high .left)
-        (le-ltb _ _ (c .if-parents-gt-MAX-PARENTS .left))
-        (sym (c .is-some .ensures ∙ ap isSome (c .find .ensures .answer) ∙ some-present (place-of H (num (c .args .id)))) ∙ c .if-is-some .left)
-        (sym (c .no-such .ensures .answer ∙ ap (λ (x : List Commit). any (λ p. leb (length x) p) ps) (c .find .ensures .same .list)) ∙ c .if-no-such .left)
-        (sym (c .rises .ensures .answer ∙ ap (λ (x : List Commit). any (exceeds x (c .rank .result)) ps) (s5 .list) ∙ ap (λ (n : ℕ). any (exceeds H n) ps) (c .rank .ensures)) ∙ c .if-rises .left)
-        (eq-eqb _ _ (sym n ∙ c .if-count-capacity .taken ∙ r));
+          e0
+          (sym (c .too-high .ensures) ∙ c .if-too-high .left)
+          (le-ltb _ _ (c .if-parents-gt-MAX-PARENTS .left))
+          (sym (c .is-some .ensures ∙ ap isSome (c .find .ensures .answer) ∙ some-present (place-of H (num (c .args .id)))) ∙ c .if-is-some .left)
+          (sym (c .no-such .ensures .answer ∙ ap (λ (x : List Commit). any (λ p. leb (length x) p) ps) (c .find .ensures .same .list)) ∙ c .if-no-such .left)
+          (sym (c .rises .ensures .answer ∙ ap (λ (x : List Commit). any (exceeds x (c .rank .result)) ps) (s5 .list) ∙ ap (λ (n : ℕ). any (exceeds H n) ps) (c .rank .ensures)) ∙ c .if-rises .left)
+          (eq-eqb _ _ (sym n ∙ c .if-count-capacity .taken ∙ r));
     }
 
 pub returns : need.returns
@@ -171,11 +171,11 @@ returns g c =
     record {
       same = same-then s7 (c .capacity .ensures .same);
       answer = by-tests (g .H·Reader .room h) H (c .args .id) (c .args .generation) (c .args .date) ps false false false false false false false
-        e0
-        (sym (c .too-high .ensures) ∙ c .if-too-high .left)
-        (le-ltb _ _ (c .if-parents-gt-MAX-PARENTS .left))
-        (sym (c .is-some .ensures ∙ ap isSome (c .find .ensures .answer) ∙ some-present (place-of H (num (c .args .id)))) ∙ c .if-is-some .left)
-        (sym (c .no-such .ensures .answer ∙ ap (λ (x : List Commit). any (λ p. leb (length x) p) ps) (c .find .ensures .same .list)) ∙ c .if-no-such .left)
-        (sym (c .rises .ensures .answer ∙ ap (λ (x : List Commit). any (exceeds x (c .rank .result)) ps) (s5 .list) ∙ ap (λ (n : ℕ). any (exceeds H n) ps) (c .rank .ensures)) ∙ c .if-rises .left)
-        (ne-eqb _ _ (λ e. c .if-count-capacity .left (n ∙ e ∙ sym r)));
+          e0
+          (sym (c .too-high .ensures) ∙ c .if-too-high .left)
+          (le-ltb _ _ (c .if-parents-gt-MAX-PARENTS .left))
+          (sym (c .is-some .ensures ∙ ap isSome (c .find .ensures .answer) ∙ some-present (place-of H (num (c .args .id)))) ∙ c .if-is-some .left)
+          (sym (c .no-such .ensures .answer ∙ ap (λ (x : List Commit). any (λ p. leb (length x) p) ps) (c .find .ensures .same .list)) ∙ c .if-no-such .left)
+          (sym (c .rises .ensures .answer ∙ ap (λ (x : List Commit). any (exceeds x (c .rank .result)) ps) (s5 .list) ∙ ap (λ (n : ℕ). any (exceeds H n) ps) (c .rank .ensures)) ∙ c .if-rises .left)
+          (ne-eqb _ _ (λ e. c .if-count-capacity .left (n ∙ e ∙ sym r)));
     }

@@ -32,9 +32,10 @@ pub loop-place-again : need.loop-place-again
 loop-place-again g c =
     let H = g .H·Reader .commits (c .args .history .now) in
     let q = getD (c .args .parents .now) (c .loop-place .place-index) 0 in
-    let e = sym (c .exceeded .ensures .answer ∙ ap (λ (x : List Commit). exceeds x (c .args .generation) q) (c .loop-place .inv .0 .list)) ∙ c .if-exceeded .left in
-    (same-then (c .loop-place .inv .0) (c .exceeded .ensures .same),
-      any-more (exceeds H (c .args .generation)) (c .args .parents .now) (c .loop-place .place-index) (c .loop-place-test .taken) (c .loop-place .inv .1) e)
+    let e = sym (c .exceeded .ensures .answer ∙ ap (λ (x : List Commit). exceeds x (c .args .generation) q) (c .loop-place .inv .0 .list)) ∙ c .if-exceeded .left in (
+      same-then (c .loop-place .inv .0) (c .exceeded .ensures .same),
+      any-more (exceeds H (c .args .generation)) (c .args .parents .now) (c .loop-place .place-index) (c .loop-place-test .taken) (c .loop-place .inv .1) e,
+    )
 
 pub returns : need.returns
 returns g c =

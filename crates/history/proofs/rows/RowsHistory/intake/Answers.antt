@@ -54,7 +54,7 @@ returns c =
     let w : refusal 512 H n ≡ None = sym (simp toZ-ofZ at (c .in-rest .ensures tt .answer)) in
     let m : commit-of (c .of-row .result) ≡ n = simp toZ-ofZ at (c .of-row .ensures .commit) in
     let e : listed (c .push .last .self) ≡ H ++ n ∷ [] =
-          c .push .ensures .grown ∙ ap (λ (x : List Commit). x ++ commit-of (c .of-row .result) ∷ []) s ∙ ap (λ (d : Commit). H ++ d ∷ []) m in
+    c .push .ensures .grown ∙ ap (λ (x : List Commit). x ++ commit-of (c .of-row .result) ∷ []) s ∙ ap (λ (d : Commit). H ++ d ∷ []) m in
     record {
       grown = record {
         still = record { tidy = c .push .ensures .tidy; laws = subst (Laws 512) (sym e) (growth-law 512 H n (c .pre .laws) w) };
