@@ -8,6 +8,7 @@ use lib.Dec.{eqb, ltb, leb}
 use lib.IntN.{ℤ, pos, negsuc}
 use lib.ListN.{length}
 use lib.Signed.{leZ}
+use Rattle.std.specs.Written.{decimal}
 use Rattle.std.specs.declared.option.Option.{Option}
 use Rattle.std.specs.declared.option.Option.the-variants.{Some, None}
 use Rattle.std.specs.declared.result.Result.{Result}
@@ -39,6 +40,10 @@ words IdHeld = codes "the id is already held"
 words NoSuchParent = codes "a parent is not a place in the history"
 words GenerationRises = codes "a parent's generation exceeds the commit's"
 words Full = codes "the history is full"
+
+-- how a refusal is printed
+abbrev pub printed : Refusal → List ℕ
+printed f = codes "refused " ++ (decimal (number f) ++ (codes ": " ++ words f))
 
 -- the commit that a call of intake offers
 abbrev pub offered : Id → Option ℕ → ℤ → List ℕ → Commit

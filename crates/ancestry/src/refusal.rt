@@ -1,5 +1,6 @@
 ghost use mathlib.Core.Path.{_≡_};
-ghost use Rattle.ancestry.specs.Intake.{number, words};
+ghost use Rattle.std.specs.declared.option.Option.the-variants.{Some};
+ghost use Rattle.ancestry.specs.Intake.{number, words, printed};
 use std::fmt;
 
 /// Why a call is refused. Where several refusals apply, the one of lowest number is given, and nothing lent or held changes.
@@ -46,6 +47,8 @@ impl Refusal {
 }
 
 pub impl fmt::Display for Refusal as RefusalDisplay {
+    ghost shown = { λ f. Some (printed f) };
+
     fn fmt<W: fmt::Write>(&self, f: &mut fmt::Formatter<W>) -> fmt::Result {
         let number = self.number();
         let words = self.words();
