@@ -5,281 +5,33 @@ use mathlib.Core.Bool.{Bool, true, false, not, cond, _&&_, _||_}
 use mathlib.Core.List.{List, [], _∷_, _++_, map}
 use Prim.Native.Nat.{ℕ, zero, suc, _+_, _-_, _≤_, _<_, min}
 use native.Mathlib.Omega.{arith}
-use lib.Dec.{eqb, ltb, leb}
-use lib.IntN.{ℤ, pos, negsuc}
+use lib.Dec.{eqb}
 use lib.Signed.{ltZ}
-use lib.ListN.{length, getD, length-map, List·getD-map, length-append, List·getD-append}
-use lib.Seq.{getD-append-seam}
+use lib.ListN.{length, getD, length-map}
 use Rattle.std.specs.declared.option.Option.{Option}
 use Rattle.std.specs.declared.option.Option.the-variants.{Some, None}
-use Rattle.std.proofs.shelf.Tests.{true≢false, false≢true, both-ways, eqb-true, eqb-false, eq-eqb, ne-eqb, ltb-true, ltb-false, lt-ltb, cases-bool, or-cases, or-left, or-right, or-parts, or-from, cases-lt, and-parts, and-from, and-left, cases-eq, not-true}
-use Rattle.std.proofs.shelf.Ways.{tells}
-use borrow.Author.Differences.{ints}
-use Rattle.ancestry.specs.Sets.{any, every, member, keep, insert, ordered, size, index-of, absent}
-use Rattle.ancestry.specs.Commits.{Commit, nobody, at, place-of}
+use Rattle.std.proofs.shelf.Tests.{true≢false, false≢true, both-ways, eqb-true, eq-eqb, ne-eqb, ltb-true, lt-ltb, or-cases, or-left, or-right, cases-lt, and-parts, and-from, cases-eq}
+use Rattle.ancestry.specs.Sets.{any, member, size, index-of, absent}
+use Rattle.ancestry.specs.Commits.{Commit, at}
 use Rattle.ancestry.specs.Reaching.{Reaches, itself, through, reaches}
-use Rattle.ancestry.specs.Keys.{newer, eqZ}
-use Rattle.ancestry.specs.Lawful.{Lawful, Held}
+use Rattle.ancestry.specs.Keys.{newer}
+use Rattle.ancestry.specs.Lawful.{Lawful}
 use Rattle.ancestry.specs.Bases.{head, empty}
-use Rattle.ancestry.specs.Naming.{Asked, Answer, named, bare, nothing, front, followed, no-name}
-use Rattle.ancestry.specs.Walk.{Walk, by-date, first-of, gains, least, has-all, has-least, taken, adopted, set-aside, counted, ended, handed, onward, free, visit, take-turn, turn, walk, at-start}
+use Rattle.ancestry.specs.Naming.{Asked, bare, nothing, followed, no-name}
+use Rattle.ancestry.specs.Walk.{Walk, by-date, first-of, gains, least, has-least, taken, adopted, set-aside, counted, ended, handed, onward, free, visit, take-turn, turn, walk, at-start}
 use Rattle.ancestry.specs.Finish.{Finish, returned, back, finish-turn, finish-step, finish}
 use Rattle.ancestry.specs.Describe.{earliest, settle, choose, from-start, unless-idle, unless-named, describe}
-use Rattle.ancestry.specs.Nearest.{trim, trimmed, name-at, between, Dates-fall, Names-fit, Found, Nearest}
+use Rattle.ancestry.specs.Nearest.{trimmed, name-at, between, Dates-fall, Names-fit, Nearest}
 use Rattle.ancestry.specs.Theorems.{Nearest-law}
-use Rattle.ancestry.proofs.Sets.{same, not-so, any-intro, any-elim, every-intro, every-elim, member-keep, member-ordered, member-insert, size-most, size-less, size-mono, size-cong, size-one-more}
-use Rattle.ancestry.proofs.Reach.{past, reaches-itself, reaches-through, reaches-sound, reaches-complete, reaches-trans, Reaches-trans}
+use Rattle.ancestry.proofs.Sets.{same, not-so, member-ordered, size-less, size-mono, size-cong, size-one-more}
+use Rattle.ancestry.proofs.Reach.{reaches-itself, reaches-through, reaches-sound, reaches-complete, reaches-trans, Reaches-trans}
 use Rattle.ancestry.proofs.Best.{antisym, reached-inside}
 use Rattle.ancestry.proofs.Join.{member-append, keep-none, place-says}
-use Rattle.ancestry.proofs.Walks.{ended-over, start-sound, taken-sound, counted-sound, adopted-sound, handed-sound, Sound, gone, Further, first-says, front-part, followed-inside, turned, walked, walk-over}
-
--- the dates' order
-pub ltZ-trans : (x y z : ℤ) → ltZ x y ≡ true → ltZ y z ≡ true → ltZ x z ≡ true
-ltZ-trans x y z h k = grind (arith, ints)
-
-pub newer-asym : (a b : Commit) → newer a b ≡ true → newer b a ≡ false
-unfolding newer eqZ
-newer-asym a b h = grind (arith, ints, tells)
-
-pub newer-trans : (a b c : Commit) → newer a b ≡ true → newer b c ≡ true → newer a c ≡ true
-unfolding newer eqZ
-newer-trans a b c h k = grind (arith, ints, tells)
-
-pub newer-later : (a b : Commit) → ltZ (b .date) (a .date) ≡ true → newer a b ≡ true
-unfolding newer
-newer-later a b h = or-left (ltZ (b .date) (a .date)) (eqZ (a .date) (b .date) && ltb (a .id) (b .id)) h
-
--- a list in order: none stands before an earlier one
-abbrev pub Sorted : (ℕ → ℕ → Bool) → List ℕ → Type 0
-Sorted b [] = Unit {0}
-Sorted b (x ∷ xs) = ((y : ℕ) → member y xs ≡ true → b y x ≡ false) × Sorted b xs
-
-module _ (b : ℕ → ℕ → Bool) (asym : (x y : ℕ) → b x y ≡ true → b y x ≡ false) (tr : (x y z : ℕ) → b x y ≡ true → b y z ≡ true → b x z ≡ true) where
-  pub insert-sorted : (x : ℕ) (ys : List ℕ) → Sorted b ys → Sorted b (insert b x ys)
-  unfolding insert member any
-  insert-sorted x [] s = (λ y m. absurd (false≢true m), tt)
-  insert-sorted x (y ∷ ys) s = go (b x y) refl (insert-sorted x ys (s .1))
-    where
-      go : (d : Bool) → b x y ≡ d → Sorted b (insert b x ys) → Sorted b (cond d (x ∷ y ∷ ys) (y ∷ insert b x ys))
-      go true e r = (λ z m. ⊎-elim (λ (k : eqb z y ≡ true). rw (eqb-true z y k) (asym x y e)) (λ (k : member z ys ≡ true). not-so (b z x) (λ h. both-ways (b z y) (s .0 z k) (tr z x y h e))) (or-cases (eqb z y) (member z ys) m), s)
-      go false e r = (λ z m. ⊎-elim (λ (k : eqb z x ≡ true). rw (eqb-true z x k) e) (λ (k : member z ys ≡ true). s .0 z k) (or-cases (eqb z x) (member z ys) (sym (member-insert b z x ys) ∙ m)), r)
-
-  pub ordered-sorted : (n : ℕ) → Sorted b (ordered b n)
-  unfolding ordered
-  ordered-sorted zero = tt
-  ordered-sorted (suc n) = insert-sorted n (ordered b n) (ordered-sorted n)
-
-  pub first-best : (S : ℕ → Bool) (xs : List ℕ) (p q : ℕ) → Sorted b xs → head (keep S xs) ≡ Some p → member q xs ≡ true → S q ≡ true → (q ≡ p) ⊎ (b q p ≡ false)
-  unfolding keep head member any
-  first-best S [] p q s e m h = absurd (false≢true m)
-  first-best S (x ∷ xs) p q s e m h = go (S x) refl e (λ t k. first-best S xs p q (s .1) t k h)
-    where
-      go : (d : Bool) → S x ≡ d → head (cond d (x ∷ keep S xs) (keep S xs)) ≡ Some p → (head (keep S xs) ≡ Some p → member q xs ≡ true → (q ≡ p) ⊎ (b q p ≡ false)) → (q ≡ p) ⊎ (b q p ≡ false)
-      go true k e r = let y : x ≡ p = cc in ⊎-elim (λ (z : eqb q x ≡ true). inl (eqb-true q x z ∙ y)) (λ (z : member q xs ≡ true). inr (rw (← y) (s .0 q z))) (or-cases (eqb q x) (member q xs) m)
-      go false k e r = ⊎-elim (λ (z : eqb q x ≡ true). absurd (both-ways (S x) k (rw (eqb-true q x z) at h))) (λ (z : member q xs ≡ true). r e z) (or-cases (eqb q x) (member q xs) m)
-
--- the history with only the parents followed
-pub trim-nobody : (a : Asked) → trim a nobody ≡ nobody
-unfolding trim
-trim-nobody a = go (a .only-first)
-  where
-    go : (b : Bool) → record { id = 0; generation = None; date = pos 0; parents = front b [] } ≡ nobody
-    go true = unfold front in refl
-    go false = unfold front in refl
-
-pub at-trimmed : (a : Asked) (H : List Commit) (p : ℕ) → at (trimmed a H) p ≡ trim a (at H p)
-unfolding at trimmed
-at-trimmed a H p = ap (getD (map (trim a) H) p) (sym (trim-nobody a)) ∙ List·getD-map (trim a) H p nobody
-
-pub trimmed-length : (a : Asked) (H : List Commit) → length (trimmed a H) ≡ length H
-unfolding trimmed
-trimmed-length a H = length-map H (trim a)
-
-pub trimmed-parents : (a : Asked) (H : List Commit) (p : ℕ) → at (trimmed a H) p .parents ≡ followed H a p
-unfolding followed trim
-trimmed-parents a H p = ap (λ (c : Commit). c .parents) (at-trimmed a H p)
-
-pub trimmed-id : (a : Asked) (H : List Commit) (p : ℕ) → at (trimmed a H) p .id ≡ at H p .id
-unfolding trim
-trimmed-id a H p = ap (λ (c : Commit). c .id) (at-trimmed a H p)
-
-pub trimmed-date : (a : Asked) (H : List Commit) (p : ℕ) → at (trimmed a H) p .date ≡ at H p .date
-unfolding trim
-trimmed-date a H p = ap (λ (c : Commit). c .date) (at-trimmed a H p)
-
-pub trimmed-generation : (a : Asked) (H : List Commit) (p : ℕ) → at (trimmed a H) p .generation ≡ at H p .generation
-unfolding trim
-trimmed-generation a H p = ap (λ (c : Commit). c .generation) (at-trimmed a H p)
-
-pub trimmed-part : (a : Asked) (H : List Commit) (p r : ℕ) → member r (at (trimmed a H) p .parents) ≡ true → member r (at H p .parents) ≡ true
-unfolding followed
-trimmed-part a H p r m = front-part (a .only-first) r (at H p .parents) (rw (trimmed-parents a H p) at m)
-
-pub Reaches-untrim : (a : Asked) (H : List Commit) (q : ℕ) {p : ℕ} → Reaches (trimmed a H) p q → Reaches H p q
-Reaches-untrim a H q (itself e) = itself e
-Reaches-untrim a H q {p} (through {r = r} m t) = through (trimmed-part a H p r m) (Reaches-untrim a H q t)
-
-pub trimmed-lawful : (a : Asked) (H : List Commit) → Lawful H → Lawful (trimmed a H)
-trimmed-lawful a H L = record {
-  apart = λ p q l k e. L .apart p q (rw (trimmed-length a H) at l) (rw (trimmed-length a H) at k) (sym (trimmed-id a H p) ∙ e ∙ trimmed-id a H q);
-  inside = λ p r l m. rw (trimmed-length a H) (L .inside p r (rw (trimmed-length a H) at l) (trimmed-part a H p r m));
-  acyclic = λ p r l m t. L .acyclic p r (rw (trimmed-length a H) at l) (trimmed-part a H p r m) (Reaches-untrim a H p t);
-  falling = λ p r l m. rw (trimmed-generation a H r, trimmed-generation a H p) (L .falling p r (rw (trimmed-length a H) at l) (trimmed-part a H p r m));
-}
-
--- the last parent on the way
-pub last-step : (H : List Commit) (q : ℕ) {p : ℕ} → Reaches H p q → (p ≡ q) ⊎ ((d : ℕ) × Reaches H p d × (member q (at H d .parents) ≡ true))
-last-step H q (itself e) = inl e
-last-step H q {p} (through {r = r} m t) = inr (⊎-elim
-    (λ (e : r ≡ q). (p, itself refl, rw e at m))
-    (λ (d : (d : ℕ) × Reaches H r d × (member q (at H d .parents) ≡ true)). (d .0, through m (d .1), d .2))
-    (last-step H q t))
-
-pub first-none : (H : List Commit) (S : ℕ → Bool) → first-of H S ≡ None → (q : ℕ) → q < length H → S q ≡ false
-unfolding first-of by-date
-first-none H S e q l = not-so (S q) (λ h. none (keep S (by-date H)) e q (member-keep S q (by-date H) ∙ and-from (member q (by-date H)) (S q) (member-ordered (λ p q. newer (at H p) (at H q)) q (length H) ∙ lt-ltb q (length H) l) h))
-  where
-    none : (xs : List ℕ) → head xs ≡ None → (q : ℕ) → member q xs ≡ true → ⊥
-    none [] e q m = unfold member any in false≢true m
-    none (x ∷ xs) e q m = let z : _≡_ {A = ℕ} 0 1 = unfold head in cc in omega arith
-
-pub first-greatest : (H : List Commit) (S : ℕ → Bool) (p q : ℕ) → first-of H S ≡ Some p → q < length H → S q ≡ true → (q ≡ p) ⊎ (newer (at H q) (at H p) ≡ false)
-unfolding first-of by-date
-first-greatest H S p q e l h = first-best b asym tr S (ordered b (length H)) p q (ordered-sorted b asym tr (length H)) e (member-ordered b q (length H) ∙ lt-ltb q (length H) l) h
-  where
-    b : ℕ → ℕ → Bool
-    b p q = newer (at H p) (at H q)
-
-    asym : (x y : ℕ) → b x y ≡ true → b y x ≡ false
-    asym x y = newer-asym (at H x) (at H y)
-
-    tr : (x y z : ℕ) → b x y ≡ true → b y z ≡ true → b x z ≡ true
-    tr x y z = newer-trans (at H x) (at H y) (at H z)
-
-pub gains-is : (f h : ℕ → ℕ) (has : ℕ → Bool) (cs : List ℕ) (m : ℕ) → ((j : ℕ) → j < length cs → h (getD cs j 0) ≡ cond (has (m + j)) (f (getD cs j 0)) (f (getD cs j 0) + 1)) → gains has m (map f cs) ≡ map h cs
-unfolding gains
-gains-is f h has [] m e = refl
-gains-is f h has (c ∷ cs) m e =
-    let x : h c ≡ cond (has (m + 0)) (f c) (f c + 1) = e 0 (omega arith) in
-    let y : m + 0 ≡ m = omega arith in
-    let z : h c ≡ cond (has m) (f c) (f c + 1) = rw y at x in
-    let r : gains has (suc m) (map f cs) ≡ map h cs = gains-is f h has cs (suc m) (λ j l. let k : m + suc j ≡ suc m + j = omega arith in subst (λ (i : ℕ). h (getD cs j 0) ≡ cond (has i) (f (getD cs j 0)) (f (getD cs j 0) + 1)) k (e (suc j) (omega arith))) in
-    rw (r, z)
-
-pub map-push : (f : ℕ → ℕ) (xs : List ℕ) (x : ℕ) → map f (xs ++ x ∷ []) ≡ map f xs ++ f x ∷ []
-map-push f [] x = refl
-map-push f (y ∷ ys) x = rw (map-push f ys x)
-
-pub getD-push-old : (xs : List ℕ) (x m : ℕ) → m < length xs → getD (xs ++ x ∷ []) m 0 ≡ getD xs m 0
-getD-push-old xs x m l = List·getD-append xs (x ∷ []) 0 m l
-
-pub getD-push-new : (xs : List ℕ) (x m : ℕ) → m ≡ length xs → getD (xs ++ x ∷ []) m 0 ≡ x
-getD-push-new xs x m e = rw e (getD-append-seam xs x [] 0)
-
-pub length-push : (xs : List ℕ) (x : ℕ) → length (xs ++ x ∷ []) ≡ length xs + 1
-length-push xs x = length-append xs (x ∷ [])
-
--- the counts of those that candidates do not reach
-unfoldable pub unreached-by : List Commit → (ℕ → Bool) → ℕ → ℕ
-unreached-by T g c = size (λ q. g q && not (reaches T c q)) (length T)
-
-unfoldable pub number-of : Option ℕ → ℕ
-number-of None = 0
-number-of (Some k) = k
-
--- least counts
-pub least-low : (n : ℕ) (ns : List ℕ) → (least n ns ≤ n) × ((x : ℕ) → member x ns ≡ true → least n ns ≤ x)
-unfolding least member any
-least-low n [] = (omega arith, λ x m. absurd (false≢true m))
-least-low n (k ∷ ks) = let r = least-low (min n k) ks in
-    (omega (arith, r .0), λ x m. ⊎-elim (λ (e : eqb x k ≡ true). let z : x ≡ k = eqb-true x k e in omega (arith, r .0)) (λ (e : member x ks ≡ true). r .1 x e) (or-cases (eqb x k) (member x ks) m))
-
-pub least-of : (n : ℕ) (ns : List ℕ) → member (least n ns) (n ∷ ns) ≡ true
-unfolding least member any
-least-of n [] = or-left (eqb n n) false (eq-eqb n n refl)
-least-of n (k ∷ ks) = ⊎-elim
-    (λ (e : eqb (least (min n k) ks) (min n k) ≡ true). let z : least (min n k) ks ≡ min n k = eqb-true (least (min n k) ks) (min n k) e in
-    ⊎-elim (λ (y : n < k). or-left (eqb (least (min n k) ks) n) (eqb (least (min n k) ks) k || member (least (min n k) ks) ks) (eq-eqb (least (min n k) ks) n (omega arith)))
-    (λ (y : k ≤ n). or-right (eqb (least (min n k) ks) n) (eqb (least (min n k) ks) k || member (least (min n k) ks) ks) (or-left (eqb (least (min n k) ks) k) (member (least (min n k) ks) ks) (eq-eqb (least (min n k) ks) k (omega arith)))) (cases-lt n k))
-    (λ (e : member (least (min n k) ks) ks ≡ true). or-right (eqb (least (min n k) ks) n) (eqb (least (min n k) ks) k || member (least (min n k) ks) ks) (or-right (eqb (least (min n k) ks) k) (member (least (min n k) ks) ks) e))
-    (or-cases (eqb (least (min n k) ks) (min n k)) (member (least (min n k) ks) ks) (least-of (min n k) ks))
-
-pub has-all-says : (x : ℕ) (has : ℕ → Bool) (m : ℕ) (ks : List ℕ) → has-all x has m ks ≡ true → (j : ℕ) → j < length ks → getD ks j 0 ≡ x → has (m + j) ≡ true
-unfolding has-all
-has-all-says x has m [] h j l e = absurd (omega arith)
-has-all-says x has m (k ∷ ks) h zero l e = let y = and-parts (not (eqb k x) || has m) (has-all x has (suc m) ks) h in
-    ⊎-elim (λ (z : not (eqb k x) ≡ true). absurd (both-ways (eqb k x) (not-true (eqb k x) z) (eq-eqb k x e))) (λ (z : has m ≡ true). let i : m + 0 ≡ m = omega arith in rw i z) (or-cases (not (eqb k x)) (has m) (y .0))
-has-all-says x has m (k ∷ ks) h (suc j) l e = let y = and-parts (not (eqb k x) || has m) (has-all x has (suc m) ks) h in
-    let i : m + suc j ≡ suc m + j = omega arith in rw i (has-all-says x has (suc m) ks (y .1) j (omega arith) e)
-
-pub earliest-says : (x m : ℕ) (ks : List ℕ) → member x ks ≡ true → (j : ℕ) × (earliest x m ks ≡ m + j) × (j < length ks) × (getD ks j 0 ≡ x)
-unfolding earliest member any
-earliest-says x m [] h = absurd (false≢true h)
-earliest-says x m (k ∷ ks) h = go (eqb k x) refl (λ e. earliest-says x (suc m) ks e)
-  where
-    go : (b : Bool) → eqb k x ≡ b → (member x ks ≡ true → (j : ℕ) × (earliest x (suc m) ks ≡ suc m + j) × (j < length ks) × (getD ks j 0 ≡ x)) → (j : ℕ) × (cond b m (earliest x (suc m) ks) ≡ m + j) × (j < suc (length ks)) × (getD (k ∷ ks) j 0 ≡ x)
-    go true e r = (0, omega arith, omega arith, eqb-true k x e)
-    go false e r = let y = r (⊎-elim (λ (z : eqb x k ≡ true). absurd (eqb-false k x e (sym (eqb-true x k z)))) (λ (z : member x ks ≡ true). z) (or-cases (eqb x k) (member x ks) h)) in
-        (suc (y .0), omega (arith, y .1), omega (arith, y .2), y .3)
-
-pub getD-mapped : (f : ℕ → ℕ) (cs : List ℕ) (j : ℕ) → j < length cs → getD (map f cs) j 0 ≡ f (getD cs j 0)
-getD-mapped f [] j l = absurd (omega arith)
-getD-mapped f (c ∷ cs) zero l = refl
-getD-mapped f (c ∷ cs) (suc j) l = getD-mapped f cs j (omega arith)
-
-pub stands-at : (c : ℕ) (cs : List ℕ) → member c cs ≡ true → (j : ℕ) × (j < length cs) × (getD cs j 0 ≡ c)
-unfolding member any
-stands-at c [] m = absurd (false≢true m)
-stands-at c (d ∷ ds) m = ⊎-elim (λ (e : eqb c d ≡ true). (0, omega arith, sym (eqb-true c d e))) (λ (e : member c ds ≡ true). let r = stands-at c ds e in (suc (r .0), omega (arith, r .1), r .2)) (or-cases (eqb c d) (member c ds) m)
-
-pub member-mapped : (f : ℕ → ℕ) (x : ℕ) (cs : List ℕ) → member x (map f cs) ≡ true → (c : ℕ) × (member c cs ≡ true) × (x ≡ f c)
-unfolding member any
-member-mapped f x [] m = absurd (false≢true m)
-member-mapped f x (c ∷ cs) m = ⊎-elim (λ (e : eqb x (f c) ≡ true). (c, or-left (eqb c c) (member c cs) (eq-eqb c c refl), eqb-true x (f c) e))
-    (λ (e : member x (map f cs) ≡ true). let r = member-mapped f x cs e in (r .0, or-right (eqb (r .0) c) (member (r .0) cs) (r .1), r .2)) (or-cases (eqb x (f c)) (member x (map f cs)) m)
-
-pub mapped-member : (f : ℕ → ℕ) (c : ℕ) (cs : List ℕ) → member c cs ≡ true → member (f c) (map f cs) ≡ true
-unfolding member any
-mapped-member f c [] m = absurd (false≢true m)
-mapped-member f c (d ∷ ds) m = ⊎-elim (λ (e : eqb c d ≡ true). or-left (eqb (f c) (f d)) (member (f c) (map f ds)) (eq-eqb (f c) (f d) (ap f (eqb-true c d e))))
-    (λ (e : member c ds ≡ true). or-right (eqb (f c) (f d)) (member (f c) (map f ds)) (mapped-member f c ds e)) (or-cases (eqb c d) (member c ds) m)
-
--- the test has the place of each c whose count is least
-pub least-marked : (f : ℕ → ℕ) (has : ℕ → Bool) (cs : List ℕ) → has-least has (map f cs) ≡ true → (c : ℕ) → member c cs ≡ true → ((c′ : ℕ) → member c′ cs ≡ true → f c ≤ f c′) → (j : ℕ) × (j < length cs) × (getD cs j 0 ≡ c) × (has j ≡ true)
-unfolding has-least
-least-marked f has [] h c m l = absurd (false≢true h)
-least-marked f has (d ∷ ds) h c m l =
-    let r = stands-at c (d ∷ ds) m in
-    let N : ℕ = least (f d) (map f ds) in
-    let x = member-mapped f N (d ∷ ds) (least-of (f d) (map f ds)) in
-    let u : f c ≤ f (x .0) = l (x .0) (x .1) in
-    let lw = least-low (f d) (map f ds) in
-    let t : N ≤ f c = ⊎-elim (λ (e : eqb (f c) (f d) ≡ true). let z : f c ≡ f d = eqb-true (f c) (f d) e in omega (arith, lw .0)) (λ (e : member (f c) (map f ds) ≡ true). lw .1 (f c) e) (or-cases (eqb (f c) (f d)) (member (f c) (map f ds)) (unfold member any in mapped-member f c (d ∷ ds) m)) in
-    let v : f c ≡ N = omega (arith, x .2) in
-    let i : 0 + r .0 ≡ r .0 = omega arith in
-    (r .0, r .1, r .2, subst (λ (k : ℕ). has k ≡ true) i (has-all-says N has 0 (map f (d ∷ ds)) h (r .0) (rw (length-map (d ∷ ds) f) (r .1)) (getD-mapped f (d ∷ ds) (r .0) (r .1) ∙ ap f (r .2) ∙ v)))
-
-pub member-cons : (x y : ℕ) (ys : List ℕ) → member x (y ∷ ys) ≡ true → (eqb x y ≡ true) ⊎ (member x ys ≡ true)
-unfolding member any
-member-cons x y ys m = or-cases (eqb x y) (member x ys) m
-
-pub place-none : (ns : List ℕ) (i : ℕ) → empty ns ≡ true → index-of ns i ≡ None
-unfolding index-of empty
-place-none [] i e = refl
-place-none (x ∷ xs) i e = absurd (false≢true e)
-
-pub no-least : (has : ℕ → Bool) → has-least has [] ≡ true → ⊥
-unfolding has-least
-no-least has h = false≢true h
-
-pub ended-quiet : (w : Walk) (q : ℕ) → w .waiting q ≡ false → ended w .waiting q ≡ false
-unfolding ended
-ended-quiet w q h = h
-
-pub none-absent : (o : Option ℕ) → absent o ≡ true → o ≡ None
-unfolding absent
-none-absent None e = refl
-none-absent (Some x) e = absurd (false≢true e)
+use Rattle.ancestry.proofs.Walks.{ended-over, taken-sound, counted-sound, adopted-sound, handed-sound, Sound, gone, first-says, followed-inside, walk-over}
+use Rattle.ancestry.proofs.Later.{start-sound}
+use Rattle.ancestry.proofs.Orders.{first-greatest, first-none, ltZ-trans, newer-later}
+use Rattle.ancestry.proofs.Followed.{last-step, trimmed-date, trimmed-id, trimmed-lawful, trimmed-length, trimmed-parents}
+use Rattle.ancestry.proofs.Tallies.{earliest-says, ended-quiet, gains-is, getD-mapped, getD-push-new, getD-push-old, least-low, least-marked, least-of, length-push, map-push, mapped-member, member-cons, no-least, none-absent, number-of, place-none, unreached-by}
 
 module _ (H : List Commit) (L : Lawful H) (a : Asked) (s : ℕ) (sl : s < length H) (fall : Dates-fall (trimmed a H) s) (fit : Names-fit (trimmed a H) a s) where
   T : List Commit

@@ -28,7 +28,7 @@ use Rattle.ancestry.proofs.Sets.{any-intro}
 use Rattle.ancestry.proofs.Best.{reached-inside}
 use Rattle.ancestry.proofs.Join.{place-some}
 use Rattle.ancestry.proofs.Grow.{grown, at-old, at-new, parents-old, parents-new, Reaches-down, place-old, keeps, from-parents}
-use Rattle.ancestry.proofs.Walks.{describe-keeps}
+use Rattle.ancestry.proofs.Later.{describe-keeps}
 
 -- the seven cases
 each : (P : Refusal → Type 0) → P DateOutOfRange → P GenerationTooHigh → P TooManyParents → P IdHeld → P NoSuchParent → P GenerationRises → P Full → (f : Refusal) → P f

@@ -5,7 +5,14 @@ pub mod Best
 pub mod Join
 pub mod Grow
 pub mod Walks
+pub mod Later
+pub mod Orders
+pub mod Followed
+pub mod Tallies
 pub mod Dates
 pub mod Unique
 pub mod Intakes
 pub mod Spelling
+pub mod Bytes
+pub mod Letters
+pub mod Readings

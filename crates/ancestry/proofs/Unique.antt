@@ -26,7 +26,7 @@ use Rattle.ancestry.specs.Theorems.{Strict, Is-best, Best-law}
 use Rattle.ancestry.proofs.Sets.{same, not-so, member-keep, member-insert, member-ordered}
 use Rattle.ancestry.proofs.Reach.{reaches-sound, reaches-complete}
 use Rattle.ancestry.proofs.Best.{Chosen, best-intro, best-elim}
-use Rattle.ancestry.proofs.Dates.{member-cons}
+use Rattle.ancestry.proofs.Tallies.{member-cons}
 
 pub better-irrefl : (a : Commit) → better a a ≡ false
 unfolding better newer eqZ

@@ -2,7 +2,8 @@ use mathlib.Core.Path.{_≡_, refl, sym, ap, _∙_}
 use Prim.Native.Nat.{_+_, _*_}
 use native.Mathlib.Omega.{arith}
 use Rattle.std.specs.declared.option.Option.the-variants.{Some, None}
-use Rattle.ancestry.proofs.Spelling.{reading-two, joined-none, joined-half, joined-some}
+use Rattle.ancestry.proofs.Readings.{reading-two}
+use Rattle.ancestry.proofs.Letters.{joined-none, joined-half, joined-some}
 use Rattle.ancestry.proofs.hex.byte.Needs as need
 
 pub returns-in-Break-high : need.returns-in-Break-high

@@ -3,7 +3,7 @@ use borrow.Author.Count.{below-more}
 use mathlib.Core.Path.{sym}
 use Prim.Native.Nat.{_<_}
 use Rattle.ancestry.specs.Numbers.{letters}
-use Rattle.ancestry.proofs.Spelling.{index-found, index-none}
+use Rattle.ancestry.proofs.Letters.{index-found, index-none}
 use Rattle.ancestry.proofs.hex.digit.Needs as need
 
 pub returns-then-i-letter : need.returns-then-i-letter

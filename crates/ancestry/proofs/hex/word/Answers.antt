@@ -1,4 +1,4 @@
-use Rattle.ancestry.proofs.Spelling.{eight-none-0, eight-none-1, eight-none-2, eight-none-3, eight-some}
+use Rattle.ancestry.proofs.Readings.{eight-none-0, eight-none-1, eight-none-2, eight-none-3, eight-some}
 use Rattle.ancestry.proofs.hex.word.Needs as need
 
 pub returns-in-Break-a : need.returns-in-Break-a

@@ -1,4 +1,5 @@
-use Rattle.ancestry.proofs.Spelling.{id-law, hex-law}
+use Rattle.ancestry.proofs.Bytes.{id-law}
+use Rattle.ancestry.proofs.Letters.{hex-law}
 use Rattle.ancestry.proofs.Reach.{reaching-law}
 use Rattle.ancestry.proofs.Join.{place-law, swap-law, join-law}
 use Rattle.ancestry.proofs.Unique.{best-law}

@@ -1,7 +1,7 @@
 use native.Mathlib.Omega.{arith}
 use mathlib.Core.Path.{_≡_}
 use lib.ListN.{length}
-use Rattle.ancestry.proofs.Spelling.{twenty}
+use Rattle.ancestry.proofs.Bytes.{twenty}
 use Rattle.ancestry.proofs.id.Id.from_bytes.Needs as need
 
 pub returns : need.returns

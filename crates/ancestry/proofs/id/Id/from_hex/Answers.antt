@@ -1,7 +1,7 @@
 use mathlib.Core.Path.{_≡_}
 use native.Mathlib.Omega.{arith}
 use lib.ListN.{length}
-use Rattle.ancestry.proofs.Spelling.{not-forty, forty-none-0, forty-none-1, forty-none-2, forty-none-3, forty-none-4, forty-some}
+use Rattle.ancestry.proofs.Readings.{not-forty, forty-none-0, forty-none-1, forty-none-2, forty-none-3, forty-none-4, forty-some}
 use Rattle.ancestry.proofs.id.Id.from_hex.Needs as need
 
 pub returns-then-text-ne40 : need.returns-then-text-ne40

@@ -1,6 +1,6 @@
 use native.Mathlib.Omega.{arith}
 use Rattle.ancestry.specs.Numbers.{Words}
-use Rattle.ancestry.proofs.Spelling.{id-bytes-out}
+use Rattle.ancestry.proofs.Bytes.{id-bytes-out}
 use Rattle.ancestry.proofs.id.Id.to_bytes.Needs as need
 
 pub returns : need.returns

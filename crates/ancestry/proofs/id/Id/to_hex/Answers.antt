@@ -1,6 +1,6 @@
 use native.Mathlib.Omega.{arith}
 use Rattle.ancestry.specs.Numbers.{letters}
-use Rattle.ancestry.proofs.Spelling.{hex-letters, lettered-more}
+use Rattle.ancestry.proofs.Letters.{hex-letters, lettered-more}
 use Rattle.ancestry.proofs.id.Id.to_hex.Needs as need
 
 pub loop-i-again : need.loop-i-again

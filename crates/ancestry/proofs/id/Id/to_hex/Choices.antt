@@ -1,7 +1,7 @@
 use Prim.Native.Nat.{ℕ, _<_}
 use mathlib.Core.Path.{_≡_}
 use lib.ListN.{length}
-use Rattle.ancestry.proofs.Spelling.{Lettered}
+use Rattle.ancestry.proofs.Letters.{Lettered}
 use Rattle.ancestry.proofs.id.Id.to_hex.Given as given
 
 abbrev pub Inv-loop-i : given.InvT-loop-i
