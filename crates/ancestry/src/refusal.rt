@@ -30,8 +30,8 @@ impl Refusal {
         self as u8
     }
 
-    /// What the refusal says to people.
-    pub fn words(self) -> &'static str
+    // What the refusal says to people.
+    fn words(self) -> &'static str
         ensures { λ r. ⌜ now r ≡ words self ⌝ }
     {
         match self {

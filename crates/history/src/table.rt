@@ -44,7 +44,7 @@ const BLANK: Row = Row {
 
 impl Row {
     // The row of a commit.
-    pub fn of(id: Id, generation: Option<u32>, date: i64, parents: &[usize]) -> Row
+    pub(crate) fn of(id: Id, generation: Option<u32>, date: i64, parents: &[usize]) -> Row
         requires { ⌜ length (now parents) ≤ 16 ⌝ }
         ensures neat { λ r. ⌜ Neat r ⌝ }
         ensures commit { λ r. ⌜ commit-of r ≡ offered id generation date (now (parents .entry)) ⌝ }
@@ -64,7 +64,7 @@ impl Row {
 }
 
 impl<const N: usize> Table<N> {
-    pub fn new() -> Table<N>
+    pub(crate) fn new() -> Table<N>
         ensures tidy { λ r. ⌜ Tidy r ⌝ }
         ensures empty { λ r. ⌜ listed r ≡ [] ⌝ }
     {
@@ -75,7 +75,7 @@ impl<const N: usize> Table<N> {
     }
 
     // One more row, where there is room.
-    pub fn push(&mut self, row: Row)
+    pub(crate) fn push(&mut self, row: Row)
         requires tidy { ⌜ Tidy (now self) ⌝ }
         requires neat { ⌜ Neat row ⌝ }
         requires room { ⌜ now self .len < N ⌝ }
@@ -86,14 +86,14 @@ impl<const N: usize> Table<N> {
         self.len += 1;
     }
 
-    pub fn len(&self) -> usize
+    pub(crate) fn len(&self) -> usize
         requires { ⌜ Tidy (now self) ⌝ }
         ensures { λ r. ⌜ r ≡ length (listed (now (self .entry))) ⌝ }
     {
         self.len
     }
 
-    pub fn find(&self, id: Id) -> Option<usize>
+    pub(crate) fn find(&self, id: Id) -> Option<usize>
         requires { ⌜ Tidy (now self) ⌝ }
         ensures { λ r. ⌜ r ≡ place-of (listed (now (self .entry))) (num id) ⌝ }
     {
@@ -105,7 +105,7 @@ impl<const N: usize> Table<N> {
         None
     }
 
-    pub fn read(&self, place: usize) -> Option<Entry>
+    pub(crate) fn read(&self, place: usize) -> Option<Entry>
         requires { ⌜ Tidy (now self) ⌝ }
         ensures { λ r. ⌜ Reads (listed (now (self .entry))) place r ⌝ }
     {
@@ -121,7 +121,7 @@ impl<const N: usize> Table<N> {
         })
     }
 
-    pub fn parent(&self, place: usize, n: usize) -> Option<usize>
+    pub(crate) fn parent(&self, place: usize, n: usize) -> Option<usize>
         requires { ⌜ Tidy (now self) ⌝ }
         ensures { λ r. ⌜ r ≡ nth (parents-of (listed (now (self .entry))) place) n ⌝ }
     {
