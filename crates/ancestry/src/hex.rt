@@ -7,24 +7,7 @@ ghost use Rattle.ancestry.specs.Numbers.{num, letters, reading, part, from-hex
 use crate::id::Id;
 
 /// The sixteen letters of hexadecimal digits.
-const LETTERS: [u8; 16] = [
-    b'0',
-    b'1',
-    b'2',
-    b'3',
-    b'4',
-    b'5',
-    b'6',
-    b'7',
-    b'8',
-    b'9',
-    b'a',
-    b'b',
-    b'c',
-    b'd',
-    b'e',
-    b'f',
-];
+const LETTERS: [u8; 16] = *b"0123456789abcdef";
 
 impl Id {
     /// The id that forty hexadecimal digits spell, a to f small, or none.
