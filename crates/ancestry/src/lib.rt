@@ -1,4 +1,6 @@
 // What the words mean: ids, commits, reaching, best sets, bases and names, with the laws that hold of them.
+#![tactic(auto)]
+
 mod hex;
 mod id;
 mod refusal;

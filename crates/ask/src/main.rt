@@ -1,4 +1,6 @@
 // Answers a bundle: lines of text that are taken in and answered over a history.
+#![tactic(auto)]
+
 use bundle::run;
 use history::{Reader, Rows};
 use std::io::{BufWriter, Read, Write};

@@ -1,4 +1,6 @@
 // Bundles: lines of text that are taken in and answered over a history.
+#![tactic(auto)]
+
 mod printing;
 mod reply;
 mod running;

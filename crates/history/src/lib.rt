@@ -1,4 +1,6 @@
 // Histories: the interface, what refuses a commit, and a history in tables of its own.
+#![tactic(auto)]
+
 mod grow;
 mod reader;
 mod rows;

@@ -1,4 +1,6 @@
 // The lines of a text, and the fields of a line.
+#![tactic(auto)]
+
 mod field;
 mod line;
 

@@ -1,4 +1,6 @@
 // What the lines of a bundle say: orders for a history, or the first field that is not as expected.
+#![tactic(auto)]
+
 mod expected;
 mod number;
 mod order;

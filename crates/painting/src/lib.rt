@@ -1,4 +1,6 @@
 // Painting a history down to the commits that are shared, and what is left of those once no other reaches them.
+#![tactic(auto)]
+
 mod hand;
 mod list;
 mod listing;

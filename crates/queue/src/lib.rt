@@ -1,4 +1,6 @@
 // A priority queue in a lent slice, for every kind of entry that has a total order.
+#![tactic(auto)]
+
 mod entry;
 mod heap;
 mod kinds;

@@ -1,4 +1,6 @@
 // The questions: merge bases, and the base common to all, over any history.
+#![tactic(auto)]
+
 mod merge_bases;
 mod owned;
 mod workspace;
