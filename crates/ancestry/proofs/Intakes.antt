@@ -1,7 +1,7 @@
 -- What refuses a commit is the lowest refusal that applies; a commit that none meets, appended, keeps every law, and every
 -- earlier answer.
 use Rattle.std.proofs.Common.{◌≡◌, ℕ, zero, suc, ◌+◌, ◌<◌, ◌≤◌, Bool, true, false, cond, not, ◌&&◌, ◌||◌, eqb, ltb, leb, ◌⊎◌, List, [], ◌∷◌, ◌++◌, length, Some, None, Option, sym, refl, ap, ◌∙◌, subst, inl, inr, ⊎_elim, arith}
-use Rattle.std.proofs.lemmas.List.{append_assoc, append_nil}
+use Rattle.std.proofs.lemmas.List.{append_assoc, append-nil}
 use Rattle.std.proofs.lemmas.Bool.{false≢true, both_ways, eqb-false, ltb-false, lt-ltb, le-leb, cases_lt, and_from}
 use Rattle.ancestry.specs.Sets.{any, member, absent}
 use Rattle.ancestry.specs.Commits.{Commit, at, place_of, parents_of}
@@ -184,7 +184,7 @@ pub held_later : (H : List Commit) (c : Commit) (i : ℕ) → Held H i → Held 
 held_later H c i h = (h.0, place_old H c i h.0 h.1)
 
 pub unchanged_law : UnchangedLaw
-unchanged_law room H [] L t f zs hf hz = rw (append_nil H) (refl, refl, λ a. refl)
+unchanged_law room H [] L t f zs hf hz = rw (append-nil H) (refl, refl, λ a. refl)
 unchanged_law room H (c ∷ cs) L t f zs hf hz =
     let G : List Commit = H ++ c ∷ [] in
     let j : H ++ c ∷ cs ≡ G ++ cs = sym (append_assoc H (c ∷ []) cs) in

@@ -1,5 +1,5 @@
 -- Letters, and the digits that they stand for.
-use Rattle.std.proofs.Common.{◌≡◌, ℕ, zero, suc, ◌+◌, ◌*◌, ◌/◌, ◌%◌, ◌^◌, ◌<◌, ◌≤◌, Bool, true, false, cond, not, ◌&&◌, eqb, ◌≢◌, List, [], ◌∷◌, ◌++◌, map, length, get_or, set, Some, None, Option, unwrap_or, sym, refl, ap, ◌∙◌, ⊎_elim, arith, length-set, get_or_set_other, get_or_set_same, below_more}
+use Rattle.std.proofs.Common.{◌≡◌, ℕ, zero, suc, ◌+◌, ◌*◌, ◌/◌, ◌%◌, ◌^◌, ◌<◌, ◌≤◌, Bool, true, false, cond, not, ◌&&◌, eqb, ◌≢◌, List, [], ◌∷◌, ◌++◌, map, length, get_or, set, Some, None, Option, unwrap_or, sym, refl, ap, ◌∙◌, ⊎_elim, arith, length-set, get_or-set_other, get_or-set_same, below_more}
 use Rattle.std.specs.List.{AllByRecursion as All}
 use Rattle.std.proofs.lemmas.List.{append_assoc, map-append, length-map}
 use Rattle.std.proofs.ByRecursion.{All-append}
@@ -147,15 +147,15 @@ lettered_more bs ts i l h inv = (length-set (set ts (2 * i) a) (2 * i + 1) b ∙
     us = set (set ts (2 * i) a) (2 * i + 1) b
 
     first : (j : ℕ) → j ≢ 2 * i → j ≢ 2 * i + 1 → get_or us j 0 ≡ get_or ts j 0
-    first j m n = get_or_set_other (set ts (2 * i) a) (2 * i + 1) j b 0 n ∙ get_or_set_other ts (2 * i) j a 0 m
+    first j m n = get_or-set_other (set ts (2 * i) a) (2 * i + 1) j b 0 n ∙ get_or-set_other ts (2 * i) j a 0 m
 
     old : (k : ℕ) → k < i → Lettered bs us k
     old k m = (first (2 * k) (omega arith) (omega arith) ∙ (inv k m).0, first (2 * k + 1) (omega arith) (omega arith) ∙ (inv k m).1)
 
     new : Lettered bs us i
     new = (
-      get_or_set_other (set ts (2 * i) a) (2 * i + 1) (2 * i) b 0 (omega arith) ∙ get_or_set_same ts (2 * i) a 0 (omega arith),
-      get_or_set_same (set ts (2 * i) a) (2 * i + 1) b 0 (let e : length (set ts (2 * i) a) ≡ 40 = length-set ts (2 * i) a ∙ l in omega arith),
+      get_or-set_other (set ts (2 * i) a) (2 * i + 1) (2 * i) b 0 (omega arith) ∙ get_or-set_same ts (2 * i) a 0 (omega arith),
+      get_or-set_same (set ts (2 * i) a) (2 * i + 1) b 0 (let e : length (set ts (2 * i) a) ≡ 40 = length-set ts (2 * i) a ∙ l in omega arith),
     )
 
 -- a test that each number below n passes

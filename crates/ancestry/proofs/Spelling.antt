@@ -2,7 +2,7 @@
 use Rattle.std.proofs.Common.{◌≡◌, ℕ, zero, suc, ◌+◌, ◌*◌, ◌/◌, ◌%◌, ◌^◌, ◌<◌, ◌≤◌, List, [], ◌∷◌, ◌++◌, length, get_or, take, drop, sym, refl, ap, ◌∙◌, subst, add-zero, mul_assoc, mul_comm, div-lt_iff_lt-mul, add-mul, pow-suc, div-add-mod', zero-add, zero-mul, mul-one, add-one, arith, take_all, drop-cons, drop-drop, take-add}
 use native.Mathlib.Nat.{pow-zero}
 use lib.Arith.{digits_div, digits_mod}
-use Rattle.std.proofs.lemmas.List.{append_assoc, append_nil, length-append}
+use Rattle.std.proofs.lemmas.List.{append_assoc, append-nil, length-append}
 use Rattle.ancestry.specs.Numbers.{spelled_on, spelled, digits, part}
 
 -- PARTS OF A LIST
@@ -51,7 +51,7 @@ spelled_shift b n (d ∷ ds) =
 -- the digits of what digits spell after n are those of n and then these
 pub digits-spelled_on : (b k n : ℕ) (ds : List ℕ) → ((j : ℕ) → j < length ds → get_or ds j 0 < b) → digits b (k + length ds) (spelled_on b n ds) ≡ digits b k n ++ ds
 unfolding digits spelled_on
-digits-spelled_on b k n [] h = ap (λ (j : ℕ). digits b j n) (add-zero k) ∙ sym (append_nil (digits b k n))
+digits-spelled_on b k n [] h = ap (λ (j : ℕ). digits b j n) (add-zero k) ∙ sym (append-nil (digits b k n))
 digits-spelled_on b k n (d ∷ ds) h =
     let l : d < b = h 0 (omega arith) in
     let e : k + suc (length ds) ≡ suc k + length ds = omega arith in

@@ -2,7 +2,7 @@
 use Rattle.std.proofs.Common.{◌≡◌, ℕ, zero, suc, ◌+◌, ◌-◌, ◌*◌, ◌<◌, ◌≤◌, Bool, true, false, cond, not, ◌&&◌, ◌||◌, eqb, ◌⊎◌, List, [], ◌∷◌, length, get_or, set, is_some, Some, None, sum_by, Option, sym, refl, ap, ◌∙◌, subst, inl, inr, ⊎_elim, arith, length-set, MatchOption}
 use Rattle.std.specs.List.Sorted.{IsPermutation}
 use Rattle.std.specs.List.{AllByRecursion as All}
-use Rattle.std.proofs.lemmas.List.{get_or_set_same, get_or_set_other, set_past}
+use Rattle.std.proofs.lemmas.List.{get_or-set_same, get_or-set_other, set_past}
 use Rattle.std.proofs.ByRecursion.{All-weaker, sum_by_le}
 use Rattle.std.proofs.lemmas.List.Sums.{sum_by-set, sum_by-cons, get_or-le-sum_by}
 use Rattle.std.proofs.lemmas.List.Sorted.{sum_by-IsPermutation, length_permutation}
@@ -77,8 +77,8 @@ kept_set ms q q' live live' r n k l w rm mv lv = record {
   space = omega (arith, length-set ms r n, k.space);
   tied = λ p. ⊎_elim
       (λ (e : p ≡ r). subst (λ (y : ℕ). occurs y (waiting q') ≡ waits (mark (set ms r n) y)) (sym e)
-      (let z : occurs r (waiting q') ≡ waits n = omega (arith, mv.here, k.tied r) in z ∙ ap waits (sym (get_or_set_same ms r n blank l))))
-      (λ (e : p ≡ r → ⊥). mv.there p e ∙ k.tied p ∙ ap waits (sym (get_or_set_other ms r p n blank e)))
+      (let z : occurs r (waiting q') ≡ waits n = omega (arith, mv.here, k.tied r) in z ∙ ap waits (sym (get_or-set_same ms r n blank l))))
+      (λ (e : p ≡ r → ⊥). mv.there p e ∙ k.tied p ∙ ap waits (sym (get_or-set_other ms r p n blank e)))
       (cases_eq p r);
   count = omega (arith, total-set waits ms r n l, mv.count, k.count);
   alive = omega (arith, total-set lively ms r n l, lv, k.alive);

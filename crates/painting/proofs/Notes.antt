@@ -1,6 +1,6 @@
 -- The results beside the marks, and what painting leaves.
 use Rattle.std.proofs.Common.{◌≡◌, ℕ, zero, suc, ◌+◌, ◌-◌, ◌<◌, ◌≤◌, Bool, true, false, cond, not, ◌&&◌, ◌||◌, eqb, ◌⊎◌, List, [], ◌∷◌, ◌++◌, length, take, set, sym, refl, ap, ◌∙◌, subst, inl, inr, ⊎_elim, arith, length-append, length-set}
-use Rattle.std.proofs.lemmas.List.{get_or_set_same, get_or_set_other, take_more_set}
+use Rattle.std.proofs.lemmas.List.{get_or-set_same, get_or-set_other, take_more_set}
 use Rattle.std.proofs.lemmas.List.Sums.{sum_by-cons, sum_by-append}
 use Rattle.std.proofs.lemmas.Bool.{false≢true, true≢false, both_ways, cases_eq, cases_lt, cases_Bool, and_parts, and_from, eqb-true, eq-eqb, ne_eqb, not-true}
 use Rattle.std.proofs.lemmas.Bool.Decides.{nat_tests}
@@ -92,10 +92,10 @@ noted_settle ms p rs l k = go (newly (mark ms p)) refl
     n = settled (mark ms p)
 
     away : (x : ℕ) → (x ≡ p → ⊥) → mark (set ms p n) x ≡ mark ms x
-    away x e = get_or_set_other ms p x n blank e
+    away x e = get_or-set_other ms p x n blank e
 
     at_p : mark (set ms p n) p ≡ n
-    at_p = get_or_set_same ms p n blank l
+    at_p = get_or-set_same ms p n blank l
 
     go : (b : Bool) → newly (mark ms p) ≡ b → Noted (set ms p n) (cond b (rs ++ p ∷ []) rs)
     go true e =

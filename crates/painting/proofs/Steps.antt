@@ -1,6 +1,6 @@
 -- What the walk down from results keeps.
 use Rattle.std.proofs.Common.{◌≡◌, ℕ, zero, suc, ◌+◌, ◌-◌, ◌<◌, ◌≤◌, Bool, true, false, cond, not, ◌&&◌, ◌||◌, eqb, ltb, ◌⊎◌, List, [], ◌∷◌, ◌++◌, length, get_or, take, set, sym, refl, ap, ◌∙◌, subst, inl, inr, ⊎_elim, arith, length-set}
-use Rattle.std.proofs.lemmas.List.{get_or_set_same, get_or_set_other, set_past, take_more}
+use Rattle.std.proofs.lemmas.List.{get_or-set_same, get_or-set_other, set_past, take_more}
 use Rattle.std.proofs.lemmas.Bool.{false≢true, true≢false, both_ways, cases_eq, cases_lt, cases_Bool, or_cases, or_left, or_right, or_parts, and_parts, and_from, eqb-true, eq-eqb, ltb-true, ltb-false, not-true, not_from_false}
 use Rattle.std.proofs.lemmas.Bool.Decides.{nat_tests}
 use Rattle.ancestry.proofs.Join.{member-append}
@@ -64,8 +64,8 @@ stepped_push r w l = record {
   grown = set_keeps (λ x m. (mark ms x).met ≡ true → m.met ≡ true) ms r n (λ _. refl) (λ x e. e);
   keeps = λ x e. member_front x r w.stack e;
   fresh = λ x e. ⊎_elim (λ (k : x ≡ r). inr (subst (λ (y : ℕ). member y (w.stack ++ r ∷ []) ≡ true) (sym k) (member_last r w.stack), subst (λ (y : ℕ). member y (r ∷ []) ≡ true) (sym k) (member_here r [])))
-      (λ (k : x ≡ r → ⊥). inl (subst (λ (m : Mark). m.met ≡ true) (get_or_set_other ms r x n blank k) e)) (cases_eq x r);
-  stems = λ x e. ⊎_elim inl (λ (k : x ≡ r). inr (subst (λ (y : ℕ). member y (r ∷ []) ≡ true) (sym k) (member_here r []), subst (λ (y : ℕ). (mark (set ms r n) y).met ≡ true) (sym k) (ap (λ (m : Mark). m.met) (get_or_set_same ms r n blank l)))) (member_end x r w.stack e);
+      (λ (k : x ≡ r → ⊥). inl (subst (λ (m : Mark). m.met ≡ true) (get_or-set_other ms r x n blank k) e)) (cases_eq x r);
+  stems = λ x e. ⊎_elim inl (λ (k : x ≡ r). inr (subst (λ (y : ℕ). member y (r ∷ []) ≡ true) (sym k) (member_here r []), subst (λ (y : ℕ). (mark (set ms r n) y).met ≡ true) (sym k) (ap (λ (m : Mark). m.met) (get_or-set_same ms r n blank l)))) (member_end x r w.stack e);
   stales = set_keeps (λ x m. m.stale ≡ (mark ms x).stale) ms r n refl (λ x. refl);
   size = length-set ms r n;
 }
@@ -90,7 +90,7 @@ done_meet H low r w l = go ((mark w.marks r).met || ltb (level H r) low) refl
   where
     go : (b : Bool) → ((mark w.marks r).met || ltb (level H r) low) ≡ b → ((mark (cond b w (record { marks = set w.marks r (seen (mark w.marks r)); stack = w.stack ++ r ∷ [] })).marks r).met ≡ true) ⊎ (level H r < low)
     go true e = ⊎_elim inl (λ (k : ltb (level H r) low ≡ true). inr (ltb-true (level H r) low k)) (or_cases (mark w.marks r).met (ltb (level H r) low) e)
-    go false e = inl (ap (λ (m : Mark). m.met) (get_or_set_same w.marks r (seen (mark w.marks r)) blank l))
+    go false e = inl (ap (λ (m : Mark). m.met) (get_or-set_same w.marks r (seen (mark w.marks r)) blank l))
 
 pub stepped_all : (H : List Commit) (low : ℕ) (rs : List ℕ) (w : Walk) → ((r : ℕ) → member r rs ≡ true → r < length w.marks) → Stepped rs w (meet_all H low rs w)
 unfolding meet_all

@@ -1,6 +1,6 @@
 -- One place told, all parents told, one turn: what is kept.
 use Rattle.std.proofs.Common.{◌≡◌, ℕ, zero, suc, ◌+◌, ◌<◌, ◌≤◌, Bool, true, false, cond, not, ◌&&◌, ◌||◌, eqb, ◌⊎◌, List, [], ◌∷◌, length, get_or, set, sym, refl, ap, ◌∙◌, subst, inl, inr, ⊎_elim, arith, length-set}
-use Rattle.std.proofs.lemmas.List.{get_or_set_same, get_or_set_other, set_past}
+use Rattle.std.proofs.lemmas.List.{get_or-set_same, get_or-set_other, set_past}
 use Rattle.std.proofs.lemmas.List.Sums.{sum_by-set}
 use Rattle.std.proofs.lemmas.Bool.{false≢true, true≢false, both_ways, cases_eq, cases_lt, cases_Bool, or_cases, or_left, or_right, and_parts, and_from, eqb-true, eq-eqb}
 use Rattle.std.proofs.lemmas.Bool.Decides.{nat_tests}
@@ -58,10 +58,10 @@ mark_past (m ∷ ms) (suc p) h = mark_past ms p (omega arith)
 pub set_keeps : (P : ℕ → Mark → Type 0) (ms : List Mark) (r : ℕ) (n : Mark) → P r n → ((x : ℕ) → P x (mark ms x)) → (x : ℕ) → P x (mark (set ms r n) x)
 set_keeps P ms r n h k x = ⊎_elim
     (λ (e : x ≡ r). ⊎_elim
-    (λ (l : r < length ms). subst (λ (y : ℕ). P y (mark (set ms r n) y)) (sym e) (subst (P r) (sym (get_or_set_same ms r n blank l)) h))
+    (λ (l : r < length ms). subst (λ (y : ℕ). P y (mark (set ms r n) y)) (sym e) (subst (P r) (sym (get_or-set_same ms r n blank l)) h))
     (λ (l : length ms ≤ r). subst (λ (l : List Mark). P x (mark l x)) (sym (set_past ms r n l)) (k x))
     (cases_lt r (length ms)))
-    (λ (e : x ≡ r → ⊥). subst (P x) (sym (get_or_set_other ms r x n blank e)) (k x))
+    (λ (e : x ≡ r → ⊥). subst (P x) (sym (get_or-set_other ms r x n blank e)) (k x))
     (cases_eq x r)
 
 pub hand_keeps : (P : ℕ → Mark → Type 0) (t : Told) (r : ℕ) (ms : List Mark) → ((m : Mark) → P r m → P r (joined m t)) → ((x : ℕ) → P x (mark ms x)) → (x : ℕ) → P x (mark (hand t r ms) x)
@@ -111,7 +111,7 @@ hand-covers t r ms l = go (covers (mark ms r) t) refl
   where
     go : (b : Bool) → covers (mark ms r) t ≡ b → Covers (mark (cond b ms (set ms r (joined (mark ms r) t))) r) t
     go true e = covers_true (mark ms r) t e
-    go false e = subst (λ (m : Mark). Covers m t) (sym (get_or_set_same ms r (joined (mark ms r) t) blank l)) (covers-joined (mark ms r) t)
+    go false e = subst (λ (m : Mark). Covers m t) (sym (get_or-set_same ms r (joined (mark ms r) t) blank l)) (covers-joined (mark ms r) t)
 
 pub hand_all-covers : (t : Told) (rs : List ℕ) (ms : List Mark) (r : ℕ) → member r rs ≡ true → r < length ms → Covers (mark (hand_all t rs ms) r) t
 unfolding hand_all
@@ -134,14 +134,14 @@ closed_turn H L ms p n lp c x lx w =
     let n₀ : length ms₀ ≡ length ms = length-set ms p (settled (mark ms p)) in
     ⊎_elim
     (λ (e : x ≡ p).
-    let z : mark ms₁ p ≡ settled (mark ms p) = subst (λ (y : ℕ). mark ms₁ y ≡ mark ms₀ y) e s ∙ get_or_set_same ms p (settled (mark ms p)) blank (omega arith) in
+    let z : mark ms₁ p ≡ settled (mark ms p) = subst (λ (y : ℕ). mark ms₁ y ≡ mark ms₀ y) e s ∙ get_or-set_same ms p (settled (mark ms p)) blank (omega arith) in
     subst (λ (y : ℕ). Handed H ms₁ y) (sym e)
     (record {
       parents = λ r i. subst (λ (m : Mark). Covers (mark ms₁ r) (told m)) (sym z) (hand_all-covers t ps ms₀ r i (omega (arith, L.inside p r lp i)));
       due = subst (λ (m : Mark). m.first ≡ true → m.others ≡ true → m.stale ≡ false → m.result ≡ true) (sym z) (λ a b d. due (mark ms p) a b d);
     }))
     (λ (e : x ≡ p → ⊥).
-    let z : mark ms₁ x ≡ mark ms x = s ∙ get_or_set_other ms p x (settled (mark ms p)) blank e in
+    let z : mark ms₁ x ≡ mark ms x = s ∙ get_or-set_other ms p x (settled (mark ms p)) blank e in
     let h : Handed H ms x = c x lx (subst (λ (m : Mark). m.waiting ≡ false) z w) in
     record {
       parents = λ r i. subst (λ (m : Mark). Covers (mark ms₁ r) (told m)) (sym z) (covers-grown (mark ms r) (mark ms₁ r) (told (mark ms x)) (h.parents r i) (grown_trans (mark ms r) (mark ms₀ r) (mark ms₁ r) (settle_grown r) (hand_all-grown t ps ms₀ r)));

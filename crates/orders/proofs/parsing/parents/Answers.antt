@@ -1,4 +1,4 @@
-use Rattle.std.proofs.Common.{◌≡◌, ◌+◌, ◌-◌, ◌<◌, ◌≤◌, [], ◌∷◌, ◌++◌, map, length, drop, Ok, Err, vec_items, sym, refl, ap, ◌∙◌, append_nil, arith}
+use Rattle.std.proofs.Common.{◌≡◌, ◌+◌, ◌-◌, ◌<◌, ◌≤◌, [], ◌∷◌, ◌++◌, map, length, drop, Ok, Err, vec_items, sym, refl, ap, ◌∙◌, append-nil, arith}
 use Rattle.std.proofs.lemmas.List.{length-map, map-append}
 use Rattle.std.proofs.lemmas.Result.{err_from_is_err_and}
 use Rattle.lines.specs.Bytes.{texts}
@@ -30,7 +30,7 @@ returns c =
     let n = c.loop-number.number in
     let ps = vec_items c.loop-number.parents in
     let l : length fs < n = omega (arith, length-map c.args.fields.now (λ f. f.now), c.loop-number-test.false) in
-    sym c.loop-number.invariant.1 ∙ ap (ok_mapped (λ xs. map via ps ++ xs)) (each_all parent_of AParent fs n l) ∙ ap Ok (append_nil (map via ps))
+    sym c.loop-number.invariant.1 ∙ ap (ok_mapped (λ xs. map via ps ++ xs)) (each_all parent_of AParent fs n l) ∙ ap Ok (append-nil (map via ps))
 
 pub returns-in-err-parent-at : goal.returns-in-err-parent-at
 returns-in-err-parent-at c =

@@ -1,5 +1,5 @@
 use Rattle.std.proofs.Common.{◌≡◌, ◌<◌, length, sym, refl, arith, length-set}
-use Rattle.std.proofs.lemmas.List.{get_or_set_other}
+use Rattle.std.proofs.lemmas.List.{get_or-set_other}
 use Rattle.painting.proofs.Notes.{appended_more, appended_same}
 use Rattle.painting.proofs.list.append_if.Goals as goal
 
@@ -14,7 +14,7 @@ returns-then-yes c =
       appended = appended_more _ _ _ _ l c.if-yes.true;
       few = omega (arith, length-set ps c.args.len c.args.place);
       more = omega arith;
-      beyond = λ j h. get_or_set_other ps c.args.len j c.args.place 0 (omega arith);
+      beyond = λ j h. get_or-set_other ps c.args.len j c.args.place 0 (omega arith);
     }
 
 pub returns : goal.returns

@@ -1,4 +1,4 @@
-use Rattle.std.proofs.Common.{◌≡◌, ◌<◌, ◌≢◌, length, sym, refl, ap, ◌∙◌, arith, get_or_set_other, get_or_set_same, below_more}
+use Rattle.std.proofs.Common.{◌≡◌, ◌<◌, ◌≢◌, length, sym, refl, ap, ◌∙◌, arith, get_or-set_other, get_or-set_same, below_more}
 use Rattle.painting.specs.Bits.{of_bits, flags}
 use Rattle.painting.proofs.Codes.{flag_at, length-flags}
 use Rattle.painting.proofs.Seeds.{blank_past}
@@ -7,8 +7,8 @@ use Rattle.painting.proofs.seed.clear.Goals as goal
 pub loop-mark-preserved : goal.loop-mark-preserved
 loop-mark-preserved c =
     below_more _ _
-    (λ k h. let ne : k ≢ c.loop-mark.mark-index = omega arith in rw get_or_set_other (c.loop-mark.invariant k h))
-    (let lt : c.loop-mark.mark-index < length c.loop-mark.marks = omega arith in rw get_or_set_same)
+    (λ k h. let ne : k ≢ c.loop-mark.mark-index = omega arith in rw get_or-set_other (c.loop-mark.invariant k h))
+    (let lt : c.loop-mark.mark-index < length c.loop-mark.marks = omega arith in rw get_or-set_same)
 
 pub returns : goal.returns
 returns c =
