@@ -20,6 +20,6 @@ pub returns : goal.returns
 returns c =
     let e = reading_two c.args.text.now c.args.at c.requires in
     record {
-      value = joined_some 16 _ _ _ _ c.in-ok-high.ensures.value c.in-ok-low.ensures.value ∙ sym e;
-      small = omega (arith, c.in-ok-high.ensures.small, c.in-ok-low.ensures.small);
+      value = joined_some 16 _ _ _ _ c.in_ok-high.ensures.value c.in_ok-low.ensures.value ∙ sym e;
+      small = omega (arith, c.in_ok-high.ensures.small, c.in_ok-low.ensures.small);
     }

@@ -24,7 +24,7 @@ returns-in-err-d c =
 pub returns : goal.returns
 returns c =
     eight_some c.args.text.now c.args.at c.requires
-    c.in-ok-a.a c.in-ok-a.ensures.value
-    c.in-ok-b.b c.in-ok-b.ensures.value
-    c.in-ok-c.c c.in-ok-c.ensures.value
+    c.in_ok-a.a c.in_ok-a.ensures.value
+    c.in_ok-b.b c.in_ok-b.ensures.value
+    c.in_ok-c.c c.in_ok-c.ensures.value
     c.in-ok-d.d c.in-ok-d.ensures.value

@@ -5,4 +5,4 @@ use Rattle.ancestry.proofs.id.word.Goals as goal
 
 pub returns : goal.returns
 unfolding spelled_on
-returns c = rw (part_four c.args.bytes.now c.args.at c.requires) (omega (arith, c.from-be-bytes.ensures))
+returns c = rw (part_four c.args.bytes.now c.args.at c.requires) (omega (arith, c.from_be_bytes.ensures))

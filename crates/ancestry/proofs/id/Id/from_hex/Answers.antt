@@ -34,8 +34,8 @@ pub returns : goal.returns
 returns c =
     let n : length c.args.text.now ≡ 40 = omega arith in
     forty_some c.args.text.now n
-    c.in-ok-first.first c.in-ok-first.ensures
-    c.in-ok-second.second c.in-ok-second.ensures
-    c.in-ok-third.third c.in-ok-third.ensures
+    c.in_ok-first.first c.in_ok-first.ensures
+    c.in_ok-second.second c.in_ok-second.ensures
+    c.in_ok-third.third c.in_ok-third.ensures
     c.in-ok-fourth.fourth c.in-ok-fourth.ensures
     c.in-ok-fifth.fifth c.in-ok-fifth.ensures
