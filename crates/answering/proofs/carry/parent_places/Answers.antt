@@ -10,18 +10,18 @@ use Rattle.answering.proofs.carry.parent_places.Goals as goal
 pub loop-parent-init : goal.loop-parent-init
 loop-parent-init g c = (same_self c.args.history.now c.requires, c.new-places.ensures.items)
 
-pub parent-place-requires : goal.parent-place-requires
-parent-place-requires g c = c.loop-parent.invariant.0.still
+pub parent_place-requires : goal.parent_place-requires
+parent_place-requires g c = c.loop-parent.invariant.0.still
 
 pub loop-parent-preserved : goal.loop-parent-preserved
 loop-parent-preserved g c =
     let H = g.H.Reader.commits c.args.history.now in
     let i = c.loop-parent.parent-index in (
-      same_then c.loop-parent.invariant.0 c.parent-place.ensures.same,
-      c.in-ok-push.ensures.items
-          ∙ places_more H c.args.parents.now i (Place 0) (vec_items c.loop-parent.places) c.parent-place.result
+      same_then c.loop-parent.invariant.0 c.parent_place.ensures.same,
+      c.in_ok-push.ensures.items
+          ∙ places_more H c.args.parents.now i (Place 0) (vec_items c.loop-parent.places) c.parent_place.result
           c.loop-parent-test.true c.loop-parent.invariant.1
-          (c.parent-place.ensures.answer ∙ ap (λ K. place_in K (via (get_or c.args.parents.now i (Place 0)))) c.loop-parent.invariant.0.list),
+          (c.parent_place.ensures.answer ∙ ap (λ K. place_in K (via (get_or c.args.parents.now i (Place 0)))) c.loop-parent.invariant.0.list),
     )
 
 pub returns : goal.returns

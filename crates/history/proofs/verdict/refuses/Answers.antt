@@ -9,13 +9,13 @@ use Rattle.history.proofs.Sames.{same_self, same_then}
 use Rattle.history.proofs.Verdicts.{some_present, by_tests}
 use Rattle.history.proofs.verdict.refuses.Goals as goal
 
-pub returns-then-not-in-range : goal.returns-then-not-in-range
-returns-then-not-in-range g c =
+pub returns-then-not-in_range : goal.returns-then-not-in_range
+returns-then-not-in_range g c =
     let h = c.args.history.now in
     let H = g.H.Reader.commits h in
     let ps = c.args.parents.now in
     let f : SFits w64 c.args.date = c.ranges.date in
-    let e0 : in_range c.args.date ≡ false = simp to_z-of_z at (sym c.in_range.ensures ∙ c.if-not-in-range.true) in
+    let e0 : in_range c.args.date ≡ false = simp to_z-of_z at (sym c.in_range.ensures ∙ c.if-not-in_range.true) in
     record {
       same = same_self h c.requires;
       answer = by_tests (g.H.Reader.room h) H c.args.id c.args.generation c.args.date ps true _ _ _ _ _ _
@@ -28,18 +28,18 @@ returns-then-not-in-range g c =
           refl;
     }
 
-pub returns-then-too-high : goal.returns-then-too-high
-returns-then-too-high g c =
+pub returns-then-too_high : goal.returns-then-too_high
+returns-then-too_high g c =
     let h = c.args.history.now in
     let H = g.H.Reader.commits h in
     let ps = c.args.parents.now in
     let f : SFits w64 c.args.date = c.ranges.date in
-    let e0 : in_range c.args.date ≡ true = simp to_z-of_z at (sym c.in_range.ensures ∙ c.if-not-in-range.false) in
+    let e0 : in_range c.args.date ≡ true = simp to_z-of_z at (sym c.in_range.ensures ∙ c.if-not-in_range.false) in
     record {
       same = same_self h c.requires;
       answer = by_tests (g.H.Reader.room h) H c.args.id c.args.generation c.args.date ps false true _ _ _ _ _
           e0
-          (sym c.too_high.ensures ∙ c.if-too-high.true)
+          (sym c.too_high.ensures ∙ c.if-too_high.true)
           refl
           refl
           refl
@@ -47,59 +47,59 @@ returns-then-too-high g c =
           refl;
     }
 
-pub returns-then-parents-gt-MAX-PARENTS : goal.returns-then-parents-gt-MAX-PARENTS
-returns-then-parents-gt-MAX-PARENTS g c =
+pub returns-then-parents-gt-MAX_PARENTS : goal.returns-then-parents-gt-MAX_PARENTS
+returns-then-parents-gt-MAX_PARENTS g c =
     let h = c.args.history.now in
     let H = g.H.Reader.commits h in
     let ps = c.args.parents.now in
     let f : SFits w64 c.args.date = c.ranges.date in
-    let e0 : in_range c.args.date ≡ true = simp to_z-of_z at (sym c.in_range.ensures ∙ c.if-not-in-range.false) in
+    let e0 : in_range c.args.date ≡ true = simp to_z-of_z at (sym c.in_range.ensures ∙ c.if-not-in_range.false) in
     record {
       same = same_self h c.requires;
       answer = by_tests (g.H.Reader.room h) H c.args.id c.args.generation c.args.date ps false false true _ _ _ _
           e0
-          (sym c.too_high.ensures ∙ c.if-too-high.false)
-          (lt-ltb _ _ c.if-parents-gt-MAX-PARENTS.true)
+          (sym c.too_high.ensures ∙ c.if-too_high.false)
+          (lt-ltb _ _ c.if-parents-gt-MAX_PARENTS.true)
           refl
           refl
           refl
           refl;
     }
 
-pub returns-then-is-some : goal.returns-then-is-some
-returns-then-is-some g c =
+pub returns-then-is_some : goal.returns-then-is_some
+returns-then-is_some g c =
     let h = c.args.history.now in
     let H = g.H.Reader.commits h in
     let ps = c.args.parents.now in
     let f : SFits w64 c.args.date = c.ranges.date in
-    let e0 : in_range c.args.date ≡ true = simp to_z-of_z at (sym c.in_range.ensures ∙ c.if-not-in-range.false) in
+    let e0 : in_range c.args.date ≡ true = simp to_z-of_z at (sym c.in_range.ensures ∙ c.if-not-in_range.false) in
     record {
       same = c.find.ensures.same;
       answer = by_tests (g.H.Reader.room h) H c.args.id c.args.generation c.args.date ps false false false true _ _ _
           e0
-          (sym c.too_high.ensures ∙ c.if-too-high.false)
-          (le-ltb _ _ c.if-parents-gt-MAX-PARENTS.false)
-          (sym (c.is-some.ensures ∙ ap is_some c.find.ensures.answer ∙ some_present (place_of H (num c.args.id))) ∙ c.if-is-some.true)
+          (sym c.too_high.ensures ∙ c.if-too_high.false)
+          (le-ltb _ _ c.if-parents-gt-MAX_PARENTS.false)
+          (sym (c.is_some.ensures ∙ ap is_some c.find.ensures.answer ∙ some_present (place_of H (num c.args.id))) ∙ c.if-is_some.true)
           refl
           refl
           refl;
     }
 
-pub returns-then-no-such : goal.returns-then-no-such
-returns-then-no-such g c =
+pub returns-then-no_such : goal.returns-then-no_such
+returns-then-no_such g c =
     let h = c.args.history.now in
     let H = g.H.Reader.commits h in
     let ps = c.args.parents.now in
     let f : SFits w64 c.args.date = c.ranges.date in
-    let e0 : in_range c.args.date ≡ true = simp to_z-of_z at (sym c.in_range.ensures ∙ c.if-not-in-range.false) in
+    let e0 : in_range c.args.date ≡ true = simp to_z-of_z at (sym c.in_range.ensures ∙ c.if-not-in_range.false) in
     record {
-      same = same_then c.find.ensures.same c.no-such.ensures.same;
+      same = same_then c.find.ensures.same c.no_such.ensures.same;
       answer = by_tests (g.H.Reader.room h) H c.args.id c.args.generation c.args.date ps false false false false true _ _
           e0
-          (sym c.too_high.ensures ∙ c.if-too-high.false)
-          (le-ltb _ _ c.if-parents-gt-MAX-PARENTS.false)
-          (sym (c.is-some.ensures ∙ ap is_some c.find.ensures.answer ∙ some_present (place_of H (num c.args.id))) ∙ c.if-is-some.false)
-          (sym (c.no-such.ensures.answer ∙ ap (λ (x : List Commit). any (λ p. leb (length x) p) ps) c.find.ensures.same.list) ∙ c.if-no-such.true)
+          (sym c.too_high.ensures ∙ c.if-too_high.false)
+          (le-ltb _ _ c.if-parents-gt-MAX_PARENTS.false)
+          (sym (c.is_some.ensures ∙ ap is_some c.find.ensures.answer ∙ some_present (place_of H (num c.args.id))) ∙ c.if-is_some.false)
+          (sym (c.no_such.ensures.answer ∙ ap (λ (x : List Commit). any (λ p. leb (length x) p) ps) c.find.ensures.same.list) ∙ c.if-no_such.true)
           refl
           refl;
     }
@@ -110,16 +110,16 @@ returns-then-rises g c =
     let H = g.H.Reader.commits h in
     let ps = c.args.parents.now in
     let f : SFits w64 c.args.date = c.ranges.date in
-    let e0 : in_range c.args.date ≡ true = simp to_z-of_z at (sym c.in_range.ensures ∙ c.if-not-in-range.false) in
-    let s5 = same_then c.find.ensures.same c.no-such.ensures.same in
+    let e0 : in_range c.args.date ≡ true = simp to_z-of_z at (sym c.in_range.ensures ∙ c.if-not-in_range.false) in
+    let s5 = same_then c.find.ensures.same c.no_such.ensures.same in
     record {
       same = same_then s5 c.rises.ensures.same;
       answer = by_tests (g.H.Reader.room h) H c.args.id c.args.generation c.args.date ps false false false false false true _
           e0
-          (sym c.too_high.ensures ∙ c.if-too-high.false)
-          (le-ltb _ _ c.if-parents-gt-MAX-PARENTS.false)
-          (sym (c.is-some.ensures ∙ ap is_some c.find.ensures.answer ∙ some_present (place_of H (num c.args.id))) ∙ c.if-is-some.false)
-          (sym (c.no-such.ensures.answer ∙ ap (λ (x : List Commit). any (λ p. leb (length x) p) ps) c.find.ensures.same.list) ∙ c.if-no-such.false)
+          (sym c.too_high.ensures ∙ c.if-too_high.false)
+          (le-ltb _ _ c.if-parents-gt-MAX_PARENTS.false)
+          (sym (c.is_some.ensures ∙ ap is_some c.find.ensures.answer ∙ some_present (place_of H (num c.args.id))) ∙ c.if-is_some.false)
+          (sym (c.no_such.ensures.answer ∙ ap (λ (x : List Commit). any (λ p. leb (length x) p) ps) c.find.ensures.same.list) ∙ c.if-no_such.false)
           (sym (c.rises.ensures.answer ∙ ap (λ (x : List Commit). any (exceeds x c.rank.result) ps) s5.list ∙ ap (λ (n : ℕ). any (exceeds H n) ps) c.rank.ensures) ∙ c.if-rises.true)
           refl;
     }
@@ -130,8 +130,8 @@ returns-then-count-capacity g c =
     let H = g.H.Reader.commits h in
     let ps = c.args.parents.now in
     let f : SFits w64 c.args.date = c.ranges.date in
-    let e0 : in_range c.args.date ≡ true = simp to_z-of_z at (sym c.in_range.ensures ∙ c.if-not-in-range.false) in
-    let s5 = same_then c.find.ensures.same c.no-such.ensures.same in
+    let e0 : in_range c.args.date ≡ true = simp to_z-of_z at (sym c.in_range.ensures ∙ c.if-not-in_range.false) in
+    let s5 = same_then c.find.ensures.same c.no_such.ensures.same in
     let s6 = same_then s5 c.rises.ensures.same in
     let s7 = same_then s6 c.count-count.ensures.same in
     let n = c.count-count.ensures.answer ∙ ap length s6.list in
@@ -140,10 +140,10 @@ returns-then-count-capacity g c =
       same = same_then s7 c.capacity.ensures.same;
       answer = by_tests (g.H.Reader.room h) H c.args.id c.args.generation c.args.date ps false false false false false false true
           e0
-          (sym c.too_high.ensures ∙ c.if-too-high.false)
-          (le-ltb _ _ c.if-parents-gt-MAX-PARENTS.false)
-          (sym (c.is-some.ensures ∙ ap is_some c.find.ensures.answer ∙ some_present (place_of H (num c.args.id))) ∙ c.if-is-some.false)
-          (sym (c.no-such.ensures.answer ∙ ap (λ (x : List Commit). any (λ p. leb (length x) p) ps) c.find.ensures.same.list) ∙ c.if-no-such.false)
+          (sym c.too_high.ensures ∙ c.if-too_high.false)
+          (le-ltb _ _ c.if-parents-gt-MAX_PARENTS.false)
+          (sym (c.is_some.ensures ∙ ap is_some c.find.ensures.answer ∙ some_present (place_of H (num c.args.id))) ∙ c.if-is_some.false)
+          (sym (c.no_such.ensures.answer ∙ ap (λ (x : List Commit). any (λ p. leb (length x) p) ps) c.find.ensures.same.list) ∙ c.if-no_such.false)
           (sym (c.rises.ensures.answer ∙ ap (λ (x : List Commit). any (exceeds x c.rank.result) ps) s5.list ∙ ap (λ (n : ℕ). any (exceeds H n) ps) c.rank.ensures) ∙ c.if-rises.false)
           (eq-eqb _ _ (sym n ∙ c.if-count-capacity.true ∙ r));
     }
@@ -154,8 +154,8 @@ returns g c =
     let H = g.H.Reader.commits h in
     let ps = c.args.parents.now in
     let f : SFits w64 c.args.date = c.ranges.date in
-    let e0 : in_range c.args.date ≡ true = simp to_z-of_z at (sym c.in_range.ensures ∙ c.if-not-in-range.false) in
-    let s5 = same_then c.find.ensures.same c.no-such.ensures.same in
+    let e0 : in_range c.args.date ≡ true = simp to_z-of_z at (sym c.in_range.ensures ∙ c.if-not-in_range.false) in
+    let s5 = same_then c.find.ensures.same c.no_such.ensures.same in
     let s6 = same_then s5 c.rises.ensures.same in
     let s7 = same_then s6 c.count-count.ensures.same in
     let n = c.count-count.ensures.answer ∙ ap length s6.list in
@@ -164,10 +164,10 @@ returns g c =
       same = same_then s7 c.capacity.ensures.same;
       answer = by_tests (g.H.Reader.room h) H c.args.id c.args.generation c.args.date ps false false false false false false false
           e0
-          (sym c.too_high.ensures ∙ c.if-too-high.false)
-          (le-ltb _ _ c.if-parents-gt-MAX-PARENTS.false)
-          (sym (c.is-some.ensures ∙ ap is_some c.find.ensures.answer ∙ some_present (place_of H (num c.args.id))) ∙ c.if-is-some.false)
-          (sym (c.no-such.ensures.answer ∙ ap (λ (x : List Commit). any (λ p. leb (length x) p) ps) c.find.ensures.same.list) ∙ c.if-no-such.false)
+          (sym c.too_high.ensures ∙ c.if-too_high.false)
+          (le-ltb _ _ c.if-parents-gt-MAX_PARENTS.false)
+          (sym (c.is_some.ensures ∙ ap is_some c.find.ensures.answer ∙ some_present (place_of H (num c.args.id))) ∙ c.if-is_some.false)
+          (sym (c.no_such.ensures.answer ∙ ap (λ (x : List Commit). any (λ p. leb (length x) p) ps) c.find.ensures.same.list) ∙ c.if-no_such.false)
           (sym (c.rises.ensures.answer ∙ ap (λ (x : List Commit). any (exceeds x c.rank.result) ps) s5.list ∙ ap (λ (n : ℕ). any (exceeds H n) ps) c.rank.ensures) ∙ c.if-rises.false)
           (ne_eqb _ _ (λ e. c.if-count-capacity.false (n ∙ e ∙ sym r)));
     }

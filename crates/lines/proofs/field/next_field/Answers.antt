@@ -9,7 +9,7 @@ returns-then-length-eq0 c =
     let b = c.blanks.result in
     record {
       fields = parted_none t (from t b) b c.blanks.ensures.value (take_rest t b)
-          (sym c.if-length-eq0.true ∙ c.field-length-length.ensures.value);
+          (sym c.if-length-eq0.true ∙ c.field_length-length.ensures.value);
       shorter = tt;
     }
 
@@ -17,8 +17,8 @@ pub returns : goal.returns
 returns c =
     let t = c.args.line.now in
     let b = c.blanks.result in
-    let n = c.field-length-length.result in
+    let n = c.field_length-length.result in
     record {
-      fields = parted_at t b n c.blanks.ensures.value c.field-length-length.ensures.value c.if-length-eq0.false;
-      shorter = shorter_at t b n c.field-length-length.ensures.within c.if-length-eq0.false;
+      fields = parted_at t b n c.blanks.ensures.value c.field_length-length.ensures.value c.if-length-eq0.false;
+      shorter = shorter_at t b n c.field_length-length.ensures.within c.if-length-eq0.false;
     }

@@ -4,7 +4,7 @@ use Rattle.std.proofs.lemmas.List.{take_all, take_rest}
 use Rattle.std.proofs.lemmas.List.Sums.{suffix_len-take_yes, suffix_len-take_no, suffix_len-le-length}
 use Rattle.lines.specs.Bytes.{blank}
 use Rattle.lines.proofs.line.trim.Goals as goal
-use Rattle.lines.proofs.line.trim.Goals.{then-loop-end-test+else-is-blank, else-loop-end-test}
+use Rattle.lines.proofs.line.trim.Goals.{then-loop-end-test+else-is_blank, else-loop-end-test}
 
 pub loop-end-init : goal.loop-end-init
 loop-end-init c =
@@ -16,7 +16,7 @@ pub loop-end-preserved : goal.loop-end-preserved
 loop-end-preserved c =
     let t = c.args.line.now in
     let n = c.loop-end.end in
-    (omega arith, omega (arith, suffix_len-take_yes blank t n 0 c.loop-end-test.true c.loop-end.invariant.0 (sym c.if-is-blank.ensures)))
+    (omega arith, omega (arith, suffix_len-take_yes blank t n 0 c.loop-end-test.true c.loop-end.invariant.0 (sym c.if-is_blank.ensures)))
 
 pub returns : goal.returns
 returns c =
@@ -24,8 +24,8 @@ returns c =
     let n = c.loop-end.end in
     let none : suffix_len blank (take n t) ≡ 0 =
     elim c.loop-end-test.branch [
-      | then-loop-end-test+else-is-blank w ↦
-          suffix_len-take_no blank t n 0 w.loop-end-test.true c.loop-end.invariant.0 (sym w.if-is-blank.ensures)
+      | then-loop-end-test+else-is_blank w ↦
+          suffix_len-take_no blank t n 0 w.loop-end-test.true c.loop-end.invariant.0 (sym w.if-is_blank.ensures)
       | else-loop-end-test w ↦ let z : n ≡ 0 = omega (arith, w.loop-end-test.false) in ap (λ k. suffix_len blank (take k t)) z
     ] in
     let front : take (n - 0) t ≡ take (length t - suffix_len blank t) t =

@@ -15,7 +15,7 @@ loop-number-preserved c =
     let n = c.loop-number.number in
     let l : n ≤ length fs = omega (arith, length-map c.args.fields.now (λ f. f.now), c.loop-number-test.true) in (
       omega arith,
-      sym (ap checked (each_next (λ t. chosen (option_of t)) AnOption fs n tt c.loop-number.invariant.0 l (sym c.in-ok-option-at.ensures)) ∙ checked_next tt _)
+      sym (ap checked (each_next (λ t. chosen (option_of t)) AnOption fs n tt c.loop-number.invariant.0 l (sym c.in_ok-option_at.ensures)) ∙ checked_next tt _)
           ∙ c.loop-number.invariant.1,
     )
 
@@ -26,12 +26,12 @@ returns c =
     let l : length fs < n = omega (arith, length-map c.args.fields.now (λ f. f.now), c.loop-number-test.false) in
     sym (ap checked (each_all (λ t. chosen (option_of t)) AnOption fs n l)) ∙ c.loop-number.invariant.1
 
-pub returns-in-err-option-at : goal.returns-in-err-option-at
-returns-in-err-option-at c =
+pub returns-in_err-option_at : goal.returns-in_err-option_at
+returns-in_err-option_at c =
     let p = err_from_is_err_and c.from-residual.result c.from-residual.ensures.1 in
     let fs = texts c.args.fields.now in
     let n = c.loop-number.number in
     let l : n ≤ length fs = omega (arith, length-map c.args.fields.now (λ f. f.now), c.loop-number-test.true) in
     p.1 ∙ ap Err p.2
-    ∙ sym (ap checked (each_fault (λ t. chosen (option_of t)) AnOption fs n c.in-err-option-at.field-0.0 c.loop-number.invariant.0 l (sym c.in-err-option-at.ensures)))
+    ∙ sym (ap checked (each_fault (λ t. chosen (option_of t)) AnOption fs n c.in_err-option_at.field-0.0 c.loop-number.invariant.0 l (sym c.in_err-option_at.ensures)))
     ∙ c.loop-number.invariant.1

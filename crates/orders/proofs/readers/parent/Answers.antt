@@ -7,24 +7,24 @@ use Rattle.orders.specs.Fields.{via}
 use Rattle.orders.proofs.Spelled.{parent_place, parent_named}
 use Rattle.orders.proofs.readers.parent.Goals as goal
 
-pub returns-in-err-decimal : goal.returns-in-err-decimal
-returns-in-err-decimal c =
+pub returns-in_err-decimal : goal.returns-in_err-decimal
+returns-in_err-decimal c =
     let t = c.args.text.now in
     ap (option_map via) c.from-residual.ensures
-    ∙ parent_place t None (sym c.if-starts-with.ensures) (c.in-err-decimal.ensures ∙ ap decimal_of (take_rest t 1))
+    ∙ parent_place t None (sym c.if-starts_with.ensures) (c.in_err-decimal.ensures ∙ ap decimal_of (take_rest t 1))
 
-pub returns-then-starts-with : goal.returns-then-starts-with
-returns-then-starts-with c =
+pub returns-then-starts_with : goal.returns-then-starts_with
+returns-then-starts_with c =
     let t = c.args.text.now in
-    parent_place t (Some c.in-ok-decimal.field-0) (sym c.if-starts-with.ensures)
-    (c.in-ok-decimal.ensures ∙ ap decimal_of (take_rest t 1))
+    parent_place t (Some c.in_ok-decimal.field-0) (sym c.if-starts_with.ensures)
+    (c.in_ok-decimal.ensures ∙ ap decimal_of (take_rest t 1))
 
-pub returns-in-err-from-hex : goal.returns-in-err-from-hex
-returns-in-err-from-hex c =
-    ap (option_map via) c.from-residual-in-err-from-hex.ensures
-    ∙ parent_named c.args.text.now None (sym c.if-starts-with.ensures) c.in-err-from-hex.ensures
+pub returns-in_err-from_hex : goal.returns-in_err-from_hex
+returns-in_err-from_hex c =
+    ap (option_map via) c.from-residual-in_err-from_hex.ensures
+    ∙ parent_named c.args.text.now None (sym c.if-starts_with.ensures) c.in_err-from_hex.ensures
 
 pub returns : goal.returns
 returns c =
-    parent_named c.args.text.now (Some (num c.in-ok-from-hex.field-0)) (sym c.if-starts-with.ensures)
-    c.in-ok-from-hex.ensures
+    parent_named c.args.text.now (Some (num c.in_ok-from_hex.field-0)) (sym c.if-starts_with.ensures)
+    c.in_ok-from_hex.ensures

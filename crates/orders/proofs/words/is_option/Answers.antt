@@ -10,5 +10,5 @@ returns-then-same-2 c = option_2 c.args.text.now (sym c.if-same.ensures) (sym c.
 
 pub returns : goal.returns
 returns c =
-    c.limits-candidates.ensures
+    c.limits_candidates.ensures
     ∙ option_3 c.args.text.now (sym c.if-same.ensures) (sym c.if-same-2.ensures)

@@ -10,7 +10,7 @@ returns-then-text-lt13 c = limit_short c.args.text.now c.if-text-lt13.true
 pub returns-then-same : goal.returns-then-same
 returns-then-same c =
     let t = c.args.text.now in
-    c.is-some.ensures
+    c.is_some.ensures
     ∙ limit_yes t c.decimal.result (sym c.if-same.ensures) (c.decimal.ensures ∙ ap decimal_of (take_rest t 13))
 
 pub returns-else-same : goal.returns-else-same

@@ -60,7 +60,7 @@ returns-then-same-7 c =
 
 pub returns : goal.returns
 returns c =
-    c.later-word.ensures ∙ word_8 c.args.text.now
+    c.later_word.ensures ∙ word_8 c.args.text.now
     (sym c.if-same.ensures)
     (sym c.if-same-2.ensures)
     (sym c.if-same-3.ensures)

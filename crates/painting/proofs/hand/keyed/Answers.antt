@@ -14,7 +14,7 @@ returns g c =
       same = c.read.ensures.same;
       keys = record {
         place = refl;
-        generation = c.unwrap-or.ensures ∙ rank_is _ ∙ ap rank e.generation;
+        generation = c.unwrap_or.ensures ∙ rank_is _ ∙ ap rank e.generation;
         date = (let f : SFits w64 c.unwrap-entry.result.date = search rules in simp to_z-of_z) ∙ e.date;
         id = e.id;
       };

@@ -37,9 +37,9 @@ get-mark-requires g c = omega (arith, inside g (goal.at.get-mark-requires g c).A
 pub put-requires : goal.put-requires
 put-requires g c = omega (arith, inside g (goal.at.put-requires g c).After-unwrap-place, length-flags c.loop-live.marks)
 
-pub append-if-found-requires : goal.append-if-found-requires
-append-if-found-requires g c =
-    let b = (goal.at.append-if-found-requires g c).After-unwrap-place in
+pub append_if-found-requires : goal.append_if-found-requires
+append_if-found-requires g c =
+    let b = (goal.at.append_if-found-requires g c).After-unwrap-place in
     let ms = flags c.loop-live.marks in
     let rs = take c.loop-live.found c.loop-live.results in
     let n = length-take-le c.loop-live.found c.loop-live.results c.loop-live.invariant.5 in
@@ -48,9 +48,9 @@ append-if-found-requires g c =
       few = c.loop-live.invariant.5;
     }
 
-pub hand-all-live-requires : goal.hand-all-live-requires
-hand-all-live-requires g c =
-    let b = (goal.at.hand-all-live-requires g c).After-unwrap-place in
+pub hand_all-live-requires : goal.hand_all-live-requires
+hand_all-live-requires g c =
+    let b = (goal.at.hand_all-live-requires g c).After-unwrap-place in
     let ms = flags c.loop-live.marks in
     let p = c.unwrap-place.result.place in
     let n = ap length c.loop-live.invariant.0.list in
@@ -65,7 +65,7 @@ hand-all-live-requires g c =
 pub loop-live-smaller : goal.loop-live-smaller
 loop-live-smaller g c =
     let b = (goal.at.loop-live-smaller g c).After-unwrap-place in
-    let e = turn_written (g.H.Reader.commits c.args.history.now) (g.H.Reader.commits c.loop-live.history) c.unwrap-place.result.place (flags c.loop-live.marks) (flags c.put.new.marks) (flags c.hand-all-live.new.marks) c.get-mark.result c.settled.result c.passed-on.result c.loop-live.invariant.0.list c.get-mark.ensures c.settled.ensures c.passed-on.ensures c.put.ensures c.hand-all-live.ensures.marks in
+    let e = turn_written (g.H.Reader.commits c.args.history.now) (g.H.Reader.commits c.loop-live.history) c.unwrap-place.result.place (flags c.loop-live.marks) (flags c.put.new.marks) (flags c.hand_all-live.new.marks) c.get-mark.result c.settled.result c.passed_on.result c.loop-live.invariant.0.list c.get-mark.ensures c.settled.ensures c.passed_on.ensures c.put.ensures c.hand_all-live.ensures.marks in
     omega (arith, ap (total cost) e, cost-turn (g.H.Reader.commits c.args.history.now) c.unwrap-place.result.place (flags c.loop-live.marks) (inside g b) (waited g b))
 
 pub loop-live-preserved : goal.loop-live-preserved
@@ -76,15 +76,15 @@ loop-live-preserved g c =
     let ms = flags c.loop-live.marks in
     let p = c.unwrap-place.result.place in
     let rs = take c.loop-live.found c.loop-live.results in
-    let e = turn_written (g.H.Reader.commits c.args.history.now) (g.H.Reader.commits c.loop-live.history) c.unwrap-place.result.place (flags c.loop-live.marks) (flags c.put.new.marks) (flags c.hand-all-live.new.marks) c.get-mark.result c.settled.result c.passed-on.result c.loop-live.invariant.0.list c.get-mark.ensures c.settled.ensures c.passed-on.ensures c.put.ensures c.hand-all-live.ensures.marks in
+    let e = turn_written (g.H.Reader.commits c.args.history.now) (g.H.Reader.commits c.loop-live.history) c.unwrap-place.result.place (flags c.loop-live.marks) (flags c.put.new.marks) (flags c.hand_all-live.new.marks) c.get-mark.result c.settled.result c.passed_on.result c.loop-live.invariant.0.list c.get-mark.ensures c.settled.ensures c.passed_on.ensures c.put.ensures c.hand_all-live.ensures.marks in
     let n : length ms ≡ length H = omega (arith, length-flags c.loop-live.marks, c.loop-live.auto.marks, c.requires.size) in
-    let note : take c.append-if-found.result c.append-if-found.new.places ≡ appended (newly (mark ms p)) p rs = c.append-if-found.ensures.appended ∙ ap (λ (b : Bool). appended b p rs) (c.newly.ensures ∙ ap newly c.get-mark.ensures) in (
-      same_then c.loop-live.invariant.0 c.hand-all-live.ensures.same,
+    let note : take c.append_if-found.result c.append_if-found.new.places ≡ appended (newly (mark ms p)) p rs = c.append_if-found.ensures.appended ∙ ap (λ (b : Bool). appended b p rs) (c.newly.ensures ∙ ap newly c.get-mark.ensures) in (
+      same_then c.loop-live.invariant.0 c.hand_all-live.ensures.same,
       λ A B da db go. subst (Good H A B) (sym e) (good_turn H A B L da db ms p n (omega (arith, inside g b)) (c.loop-live.invariant.1 A B da db go)),
-      c.hand-all-live.ensures.kept,
-      subst (λ (x : List Mark). Noted x (take c.append-if-found.result c.append-if-found.new.places)) (sym e) (subst (Noted (turn H p ms)) (sym note) (noted_turn H p ms rs (inside g b) c.loop-live.invariant.3)),
+      c.hand_all-live.ensures.kept,
+      subst (λ (x : List Mark). Noted x (take c.append_if-found.result c.append_if-found.new.places)) (sym e) (subst (Noted (turn H p ms)) (sym note) (noted_turn H p ms rs (inside g b) c.loop-live.invariant.3)),
       subst Unmet (sym e) (unmet-turn H p ms c.loop-live.invariant.4),
-      c.append-if-found.ensures.few,
+      c.append_if-found.ensures.few,
     )
 
 pub returns : goal.returns

@@ -9,7 +9,7 @@ use Rattle.painting.proofs.Parents.{parent_is, parent_some, nth_member}
 use Rattle.painting.proofs.redundant.meet_all.Goals as goal
 
 pub loop-n-init : goal.loop-n-init
-loop-n-init g c = (same_self _ c.parents-of-n-end.ensures.same.still, meet_all_none _ _ _, refl)
+loop-n-init g c = (same_self _ c.parents_of-n-end.ensures.same.still, meet_all_none _ _ _, refl)
 
 pub parent-requires : goal.parent-requires
 parent-requires g c = c.loop-n.invariant.0.still
@@ -17,12 +17,12 @@ parent-requires g c = c.loop-n.invariant.0.still
 pub unwrap-parent-requires : goal.unwrap-parent-requires
 unwrap-parent-requires g c =
     let H = g.H.Reader.commits c.args.history.now in
-    parent_some H (g.H.Reader.commits c.loop-n.history) c.args.place c.loop-n.n c.parent.result (c.loop-n.invariant.0.list ∙ c.parents-of-n-end.ensures.same.list) c.parent.ensures.answer (omega (arith, c.parents-of-n-end.ensures.answer, c.loop-n-test.true))
+    parent_some H (g.H.Reader.commits c.loop-n.history) c.args.place c.loop-n.n c.parent.result (c.loop-n.invariant.0.list ∙ c.parents_of-n-end.ensures.same.list) c.parent.ensures.answer (omega (arith, c.parents_of-n-end.ensures.answer, c.loop-n-test.true))
 
 pub meet-depth-requires : goal.meet-depth-requires
 meet-depth-requires g c =
     let H = g.H.Reader.commits c.args.history.now in
-    let s = c.loop-n.invariant.0.list ∙ c.parents-of-n-end.ensures.same.list in
+    let s = c.loop-n.invariant.0.list ∙ c.parents_of-n-end.ensures.same.list in
     let m = nth_member _ c.loop-n.n _ (parent_is H (g.H.Reader.commits c.loop-n.history) c.args.place c.loop-n.n c.unwrap-parent.result c.parent.result s c.parent.ensures.answer c.unwrap-parent.ensures) in
     let i = (g.H.Reader.lawful c.args.history.now c.requires.whole).lawful.inside c.args.place c.unwrap-parent.result c.requires.below m in
     let n = ap length (c.parent.ensures.same.list ∙ s) in
@@ -35,7 +35,7 @@ meet-depth-requires g c =
 
 pub loop-n-preserved : goal.loop-n-preserved
 loop-n-preserved g c =
-    let G = g.H.Reader.commits c.parents-of-n-end.new.history in
+    let G = g.H.Reader.commits c.parents_of-n-end.new.history in
     let e = parent_is G (g.H.Reader.commits c.loop-n.history) c.args.place c.loop-n.n c.unwrap-parent.result c.parent.result c.loop-n.invariant.0.list c.parent.ensures.answer c.unwrap-parent.ensures in
     let s = same_then c.loop-n.invariant.0 c.parent.ensures.same in
     let w = walk_of (flags c.loop-n.marks) c.loop-n.stack c.loop-n.depth in (
@@ -49,12 +49,12 @@ loop-n-preserved g c =
 pub returns : goal.returns
 returns g c =
     let H = g.H.Reader.commits c.args.history.now in
-    let s = c.parents-of-n-end.ensures.same in
+    let s = c.parents_of-n-end.ensures.same in
     let w = walk_of (flags c.args.marks.now) c.args.stack.now c.args.depth in
     record {
       same = same_then s c.loop-n.invariant.0;
       walk = c.loop-n.invariant.1
           ∙ ap (λ (x : List Commit). meet_all x c.args.low (take c.loop-n.n (parents_of x c.args.place)) w) s.list
-          ∙ ap (λ (x : List ℕ). meet_all H c.args.low x w) (take_all c.loop-n.n (parents_of H c.args.place) (omega (arith, c.parents-of-n-end.ensures.answer, c.loop-n-test.false)));
+          ∙ ap (λ (x : List ℕ). meet_all H c.args.low x w) (take_all c.loop-n.n (parents_of H c.args.place) (omega (arith, c.parents_of-n-end.ensures.answer, c.loop-n-test.false)));
       room = c.loop-n.invariant.2;
     }

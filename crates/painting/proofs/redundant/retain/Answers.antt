@@ -16,8 +16,8 @@ get-requires c =
     let ps = c.args.places.now in
     c.requires.inside _ (taken-member ps i c.args.count _ c.loop-i-test.true c.requires.few (sym (c.loop-i.invariant.1 i (omega arith))))
 
-pub append-if-len-requires : goal.append-if-len-requires
-append-if-len-requires c = record {
+pub append_if-len-requires : goal.append_if-len-requires
+append_if-len-requires c = record {
   room = λ e. omega (arith, c.loop-i.invariant.2, c.loop-i.auto.places, c.requires.few, c.loop-i-test.true);
   few = omega (arith, c.loop-i.invariant.2, c.loop-i.auto.places, c.requires.few, c.loop-i-test.true);
 }
@@ -30,7 +30,7 @@ loop-i-preserved c =
     let x = get_or c.loop-i.places i 0 in
     let e : x ≡ get_or ps i 0 = c.loop-i.invariant.1 i (omega arith) in
     let b : c.left.result ≡ t x = c.left.ensures ∙ ap left c.get.ensures in
-    let a = c.append-if-len.ensures in (
+    let a = c.append_if-len.ensures in (
       a.appended ∙ keep_append t (take c.loop-i.len c.loop-i.places) ps i x c.left.result (omega (arith, c.requires.few, c.loop-i-test.true)) e b c.loop-i.invariant.0,
       λ j h. a.beyond j (omega (arith, c.loop-i.invariant.2)) ∙ c.loop-i.invariant.1 j (omega arith),
       omega (arith, a.more, c.loop-i.invariant.2),

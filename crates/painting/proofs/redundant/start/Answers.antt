@@ -14,8 +14,8 @@ loop-place-init g c =
     let ms = flags c.args.marks.now in
     (same_self _ c.requires.whole, tracked_none _ _ _ ms c.requires.unmet c.requires.fresh, omega (arith, unmet_most ms, length-flags c.args.marks.now, c.requires.size, c.requires.room))
 
-pub meet-all-depth-requires : goal.meet-all-depth-requires
-meet-all-depth-requires g c =
+pub meet_all-depth-requires : goal.meet_all-depth-requires
+meet_all-depth-requires g c =
     let s = c.loop-place.invariant.0 in
     let n = ap length s.list in
     let ps = c.args.places.now in
@@ -38,11 +38,11 @@ loop-place-preserved g c =
     let ms = flags c.loop-place.marks in
     let m = getD-member ps i c.loop-place-test.true in
     let w = walk_of ms c.loop-place.stack c.loop-place.depth in
-    let e = c.meet-all-depth.ensures.walk ∙ ap (λ (x : List Commit). meet_all x c.args.low (parents_of x p) w) s.list in
+    let e = c.meet_all-depth.ensures.walk ∙ ap (λ (x : List Commit). meet_all x c.args.low (parents_of x p) w) s.list in
     let t = tracked_start H L c.args.low ps (take i ps) p (take c.loop-place.depth c.loop-place.stack) ms (omega (arith, length-flags c.loop-place.marks, c.loop-place.auto.marks, c.requires.size)) (c.requires.inside p m) m c.loop-place.invariant.1 in (
-      same_then s c.meet-all-depth.ensures.same,
+      same_then s c.meet_all-depth.ensures.same,
       tracked_at H c.args.low ps (take (i + 1) ps) _ _ e (subst (λ (b : List ℕ). Tracked H c.args.low ps b (meet_all H c.args.low (parents_of H p) w)) (sym (take_more ps i 0 c.loop-place-test.true)) t),
-      omega (arith, c.meet-all-depth.ensures.room, c.loop-place.invariant.2, c.meet-all-depth.auto.stack),
+      omega (arith, c.meet_all-depth.ensures.room, c.loop-place.invariant.2, c.meet_all-depth.auto.stack),
     )
 
 pub returns : goal.returns

@@ -10,8 +10,8 @@ use Rattle.painting.proofs.redundant.walk.Goals as goal
 pub loop-depth-init : goal.loop-depth-init
 loop-depth-init g c = (same_self _ c.requires.whole, c.requires.inside, λ rs bs t. t, c.requires.room)
 
-pub meet-all-depth-requires : goal.meet-all-depth-requires
-meet-all-depth-requires g c =
+pub meet_all-depth-requires : goal.meet_all-depth-requires
+meet_all-depth-requires g c =
     let s = c.loop-depth.invariant.0 in
     let n = ap length s.list in
     record {
@@ -22,7 +22,7 @@ meet-all-depth-requires g c =
     }
 
 pub loop-depth-smaller : goal.loop-depth-smaller
-loop-depth-smaller g c = omega (arith, c.meet-all-depth.ensures.room, c.loop-depth-test.true)
+loop-depth-smaller g c = omega (arith, c.meet_all-depth.ensures.room, c.loop-depth-test.true)
 
 pub loop-depth-preserved : goal.loop-depth-preserved
 loop-depth-preserved g c =
@@ -34,13 +34,13 @@ loop-depth-preserved g c =
     let d = c.loop-depth.depth in
     let p = get_or st (d - 1) 0 in
     let w = walk_of ms st (d - 1) in
-    let e = c.meet-all-depth.ensures.walk ∙ ap (λ (x : List Commit). meet_all x c.args.low (parents_of x p) w) s.list in
+    let e = c.meet_all-depth.ensures.walk ∙ ap (λ (x : List Commit). meet_all x c.args.low (parents_of x p) w) s.list in
     let len : length ms ≡ length H = omega (arith, length-flags c.loop-depth.marks, c.loop-depth.auto.marks, c.requires.size) in
     let k = pop_inside (length H) st d c.loop-depth-test.true (omega (arith, c.loop-depth.invariant.3)) c.loop-depth.invariant.1 in (
-      same_then s c.meet-all-depth.ensures.same,
-      stack_inside H L c.args.low p w (walk_of (flags c.meet-all-depth.new.marks) c.meet-all-depth.new.stack c.meet-all-depth.result) len k.0 e k.1,
+      same_then s c.meet_all-depth.ensures.same,
+      stack_inside H L c.args.low p w (walk_of (flags c.meet_all-depth.new.marks) c.meet_all-depth.new.stack c.meet_all-depth.result) len k.0 e k.1,
       λ rs bs t. tracked_at H c.args.low rs bs _ _ e (tracked_turn H L c.args.low rs bs p (take (d - 1) st) (take d st) ms len (pop_is st d c.loop-depth-test.true (omega (arith, c.loop-depth.invariant.3))) (c.loop-depth.invariant.2 rs bs t)),
-      omega (arith, c.meet-all-depth.ensures.room, c.loop-depth.invariant.3, c.meet-all-depth.auto.stack),
+      omega (arith, c.meet_all-depth.ensures.room, c.loop-depth.invariant.3, c.meet_all-depth.auto.stack),
     )
 
 pub returns : goal.returns

@@ -4,10 +4,10 @@ use Rattle.history.proofs.Sames.{same_then}
 use Rattle.painting.proofs.Seeds.{seed_found, seed_absent}
 use Rattle.painting.proofs.seed.seed.Goals as goal
 
-pub returns-in-default : goal.returns-in-default
-returns-in-default g c = record {
+pub returns-in_default : goal.returns-in_default
+returns-in_default g c = record {
   same = c.find.ensures.same;
-  marks = seed_absent _ _ _ _ (sym c.find.ensures.answer ∙ c.in-default.is);
+  marks = seed_absent _ _ _ _ (sym c.find.ensures.answer ∙ c.in_default.is);
   kept = c.requires.kept;
 }
 

@@ -22,13 +22,13 @@ returns-in-Some c =
     }
 
 pub of-row-requires : goal.of-row-requires
-of-row-requires c = few_parents 512 _ _ (sym c.in-default.ensures.answer)
+of-row-requires c = few_parents 512 _ _ (sym c.in_default.ensures.answer)
 
 pub push-requires : goal.push-requires
 push-requires c =
     let s = c.refuses.ensures.same in
     let n = listed_length c.refuses.new.history.table s.still.tidy in
-    let full = not_full 512 _ _ (sym c.in-default.ensures.answer) in
+    let full = not_full 512 _ _ (sym c.in_default.ensures.answer) in
     let k = ap length s.list in
     let len = c.refuses.new.history.table.len in
     let l : len < 512 = ⊎_elim (λ x. x) (λ (x : 512 ≤ len). absurd (full (omega (arith, n, k, x, s.still.tidy.within)))) (cases_lt len 512) in
@@ -40,7 +40,7 @@ returns c =
     let H = listed c.args.self.now.table in
     let n = offered c.args.id c.args.generation c.args.date c.args.parents.now in
     let s = c.refuses.ensures.same.list in
-    let w : refusal 512 H n ≡ None = sym (simp to_z-of_z at c.in-default.ensures.answer) in
+    let w : refusal 512 H n ≡ None = sym (simp to_z-of_z at c.in_default.ensures.answer) in
     let m : commit_of c.of-row.result ≡ n = simp to_z-of_z at c.of-row.ensures.commit in
     let e : listed c.push.new.self ≡ H ++ n ∷ [] =
     c.push.ensures.grown ∙ ap (λ (x : List Commit). x ++ commit_of c.of-row.result ∷ []) s ∙ ap (λ (d : Commit). H ++ d ∷ []) m in

@@ -7,17 +7,17 @@ use Rattle.ancestry.specs.Bases.{shared}
 use Rattle.ancestry.specs.Numbers.{num}
 use Rattle.revision.proofs.Moves.{bests_at, list_at, bests_inside}
 use Rattle.revision.proofs.merge_bases.function.find_bases.Goals as goal
-use Rattle.revision.proofs.merge_bases.function.find_bases.Goals.{After-remove-redundant-kept}
+use Rattle.revision.proofs.merge_bases.function.find_bases.Goals.{After-remove_redundant-kept}
 
 -- what is left is the best of what is shared
-kept : (g : _) (c : goal.After-remove-redundant-kept g) → Bests (g.H.Reader.commits c.args.history.now) (shared (g.H.Reader.commits c.args.history.now) (num c.args.first) (nums c.args.others.now)) (take c.remove-redundant-kept.result c.remove-redundant-kept.new.results)
+kept : (g : _) (c : goal.After-remove_redundant-kept g) → Bests (g.H.Reader.commits c.args.history.now) (shared (g.H.Reader.commits c.args.history.now) (num c.args.first) (nums c.args.others.now)) (take c.remove_redundant-kept.result c.remove_redundant-kept.new.results)
 kept g c =
-    let p = c.paint-down-to-common-found in
-    bests_at (g.H.Reader.commits c.args.history.now) (g.H.Reader.commits p.new.history) p.ensures.same.list _ _ _ _ p.ensures.painted c.remove-redundant-kept.ensures.bests
+    let p = c.paint_down_to_common-found in
+    bests_at (g.H.Reader.commits c.args.history.now) (g.H.Reader.commits p.new.history) p.ensures.same.list _ _ _ _ p.ensures.painted c.remove_redundant-kept.ensures.bests
 
-pub remove-redundant-kept-requires : goal.remove-redundant-kept-requires
-remove-redundant-kept-requires g c =
-    let p = c.paint-down-to-common-found in
+pub remove_redundant-kept-requires : goal.remove_redundant-kept-requires
+remove_redundant-kept-requires g c =
+    let p = c.paint_down_to_common-found in
     let n = ap length p.ensures.same.list in
     record {
       whole = p.ensures.same.still;
@@ -28,11 +28,11 @@ remove-redundant-kept-requires g c =
       unmet = p.ensures.painted.unmet;
     }
 
-pub list-best-requires : goal.list-best-requires
-list-best-requires g c =
-    let b = kept g (goal.at.list-best-requires g c).After-remove-redundant-kept in
-    let p = c.paint-down-to-common-found in
-    let r = c.remove-redundant-kept in
+pub list_best-requires : goal.list_best-requires
+list_best-requires g c =
+    let b = kept g (goal.at.list_best-requires g c).After-remove_redundant-kept in
+    let p = c.paint_down_to_common-found in
+    let r = c.remove_redundant-kept in
     let s = same_then p.ensures.same r.ensures.same in
     let d : r.result - 0 ≡ r.result = omega arith in
     let n = length-take-le (r.result - 0) r.new.results (omega (arith, r.ensures.few, p.ensures.few, p.auto.results, r.auto.results, c.requires.results)) in
@@ -45,15 +45,15 @@ list-best-requires g c =
 
 pub returns : goal.returns
 returns g c =
-    let b = kept g (goal.at.returns g c).After-remove-redundant-kept in
-    let p = c.paint-down-to-common-found in
-    let r = c.remove-redundant-kept in
+    let b = kept g (goal.at.returns g c).After-remove_redundant-kept in
+    let p = c.paint_down_to_common-found in
+    let r = c.remove_redundant-kept in
     let s = same_then p.ensures.same r.ensures.same in
     let d : r.result - 0 ≡ r.result = omega arith in
     let n = length-take-le (r.result - 0) r.new.results (omega (arith, r.ensures.few, p.ensures.few, p.auto.results, r.auto.results, c.requires.results)) in
     record {
-      same = same_then s c.list-best.ensures.same;
-      few = omega (arith, c.list-best.ensures.count, n, r.ensures.few, p.ensures.few);
-      written = list_at _ (g.H.Reader.commits r.new.history) s.list _ _ _ _ (ap (λ (k : ℕ). take k r.new.results) d) b c.list-best.ensures.written;
-      beyond = c.list-best.ensures.beyond;
+      same = same_then s c.list_best.ensures.same;
+      few = omega (arith, c.list_best.ensures.count, n, r.ensures.few, p.ensures.few);
+      written = list_at _ (g.H.Reader.commits r.new.history) s.list _ _ _ _ (ap (λ (k : ℕ). take k r.new.results) d) b c.list_best.ensures.written;
+      beyond = c.list_best.ensures.beyond;
     }

@@ -9,27 +9,27 @@ use Rattle.ancestry.specs.Numbers.{num}
 use Rattle.history.proofs.Sames.{same_then}
 use Rattle.revision.proofs.Members.{bases_plain, bases_walked, length-nums, plain_slots, enough, answered}
 use Rattle.revision.proofs.merge_bases.function.merge_base.Goals as goal
-use Rattle.revision.proofs.merge_bases.function.merge_base.Goals.{In-default, then-is-empty-via-then-is-empty, then-is-empty-via-else-is-empty+then-contains}
+use Rattle.revision.proofs.merge_bases.function.merge_base.Goals.{In-default, then-is_empty-via-then-is_empty, then-is_empty-via-else-is_empty+then-contains}
 
 -- nothing refuses
 free : (g : _) (c : goal.In-default g) → denied (space_of (length c.args.space.marks.now) (length c.args.space.queue.now) (length c.args.space.stack.now) (length c.args.answers.now)) (length (g.H.Reader.commits c.args.history.now)) (length c.args.others.now) ≡ None
 free g c =
     let sp = space_of (length c.args.space.marks.now) (length c.args.space.queue.now) (length c.args.space.stack.now) (length c.args.answers.now) in
-    ap (λ (n : ℕ). denied sp n (length c.args.others.now)) (sym c.count-count.ensures.answer) ∙ sym c.denied.ensures ∙ c.in-default.is
+    ap (λ (n : ℕ). denied sp n (length c.args.others.now)) (sym c.count-count.ensures.answer) ∙ sym c.denied.ensures ∙ c.in_default.is
 
 pub bounds-answers-0 : goal.bounds-answers-0
 bounds-answers-0 g c = let h = enough _ _ _ (free g (goal.at.bounds-answers-0 g c).In-default) in omega (arith, h.answers)
 
-pub returns-then-is-empty : goal.returns-then-is-empty
-returns-then-is-empty g c =
+pub returns-then-is_empty : goal.returns-then-is_empty
+returns-then-is_empty g c =
     let H = g.H.Reader.commits c.args.history.now in
     let f = num c.args.first in
     let zs = c.args.others.now in
-    let none = free g (goal.at.returns-then-is-empty g c).In-default in
+    let none = free g (goal.at.returns-then-is_empty g c).In-default in
     let h = enough _ _ _ none in
-    let why : (length zs ≡ 0) ⊎ (member f (nums zs) ≡ true) = elim c.then-is-empty.branch [
-      | then-is-empty-via-then-is-empty w ↦ inl (eqb-true (length zs) 0 (sym c.is-empty.ensures ∙ w.if-is-empty.true))
-      | then-is-empty-via-else-is-empty+then-contains w ↦ inr (sym w.contains.ensures ∙ w.if-contains.true)
+    let why : (length zs ≡ 0) ⊎ (member f (nums zs) ≡ true) = elim c.then-is_empty.branch [
+      | then-is_empty-via-then-is_empty w ↦ inl (eqb-true (length zs) 0 (sym c.is_empty.ensures ∙ w.if-is_empty.true))
+      | then-is_empty-via-else-is_empty+then-contains w ↦ inr (sym w.contains.ensures ∙ w.if-contains.true)
     ] in
     let b = bases_plain H f zs why in
     record {
@@ -41,19 +41,19 @@ returns-then-is-empty g c =
       stack = tt;
     }
 
-pub split-at-mut-results-requires : goal.split-at-mut-results-requires
-split-at-mut-results-requires g c = let h = enough _ _ _ (free g (goal.at.split-at-mut-results-requires g c).In-default) in omega (arith, h.stack, c.count-count.ensures.answer)
+pub split_at_mut-results-requires : goal.split_at_mut-results-requires
+split_at_mut-results-requires g c = let h = enough _ _ _ (free g (goal.at.split_at_mut-results-requires g c).In-default) in omega (arith, h.stack, c.count-count.ensures.answer)
 
-pub slice-bounds-find-bases-end : goal.slice-bounds-find-bases-end
-slice-bounds-find-bases-end g c = let h = enough _ _ _ (free g (goal.at.slice-bounds-find-bases-end g c).In-default) in omega (arith, h.marks, c.count-count.ensures.answer)
+pub slice-bounds-find_bases-end : goal.slice-bounds-find_bases-end
+slice-bounds-find_bases-end g c = let h = enough _ _ _ (free g (goal.at.slice-bounds-find_bases-end g c).In-default) in omega (arith, h.marks, c.count-count.ensures.answer)
 
-pub find-bases-found-requires : goal.find-bases-found-requires
-find-bases-found-requires g c =
-    let h = enough _ _ _ (free g (goal.at.find-bases-found-requires g c).In-default) in
+pub find_bases-found-requires : goal.find_bases-found-requires
+find_bases-found-requires g c =
+    let h = enough _ _ _ (free g (goal.at.find_bases-found-requires g c).In-default) in
     let s = c.count-count.ensures.same in
     let n = ap length s.list in
     let e = c.count-count.ensures.answer in
-    let p = c.split-at-mut-results.ensures in
+    let p = c.split_at_mut-results.ensures in
     record {
       whole = s.still;
       marks = length-take-le _ c.args.space.marks.now (omega (arith, h.marks, e)) ∙ (omega (arith, n, e));
@@ -71,9 +71,9 @@ returns g c =
     let s = c.count-count.ensures.same in
     let none = free g (goal.at.returns g c).In-default in
     let h = enough _ _ _ none in
-    let r = c.find-bases-found in
+    let r = c.find_bases-found in
     let after = r.new.answers in
-    let w : nums (take r.result after) ≡ bases H f (nums zs) = r.ensures.written ∙ ap (λ (x : List Commit). ids x (best x (shared x f (nums zs)))) s.list ∙ sym (bases_walked H f zs (λ e. eqb-false (length zs) 0 (sym c.is-empty.ensures ∙ c.if-is-empty.false) e) (sym c.contains.ensures ∙ c.if-contains.false)) in
+    let w : nums (take r.result after) ≡ bases H f (nums zs) = r.ensures.written ∙ ap (λ (x : List Commit). ids x (best x (shared x f (nums zs)))) s.list ∙ sym (bases_walked H f zs (λ e. eqb-false (length zs) 0 (sym c.is_empty.ensures ∙ c.if-is_empty.false) e) (sym c.contains.ensures ∙ c.if-contains.false)) in
     record {
       same = same_then s r.ensures.same;
       answer = answered _ _ r.result none (sym (length-nums r.result after (omega (arith, r.ensures.few, ap length s.list, h.answers, r.auto.answers))) ∙ ap length w);

@@ -2,8 +2,8 @@ use Rattle.std.proofs.Common.{arith}
 use Rattle.revision.proofs.Members.{Enough, denied_many, short_marks, short_queue, short_stack, short_answers, not_denied}
 use Rattle.revision.proofs.merge_bases.lent.denied.Goals as goal
 
-pub returns-then-others-gt-MAX-OTHERS : goal.returns-then-others-gt-MAX-OTHERS
-returns-then-others-gt-MAX-OTHERS c = denied_many _ _ _ (omega arith)
+pub returns-then-others-gt-MAX_OTHERS : goal.returns-then-others-gt-MAX_OTHERS
+returns-then-others-gt-MAX_OTHERS c = denied_many _ _ _ (omega arith)
 
 pub returns-then-marks-count : goal.returns-then-marks-count
 returns-then-marks-count c = short_marks _ _ _ (omega arith) (omega arith)

@@ -48,8 +48,8 @@ loop-other-preserved g c =
     )
 
 -- what is left at the end
-pub first-best-requires : goal.first-best-requires
-first-best-requires g c =
+pub first_best-requires : goal.first_best-requires
+first_best-requires g c =
     let G = g.H.Reader.commits c.start-len.new.history in
     let H = g.H.Reader.commits c.args.history.now in
     let a = c.start-len.ensures in

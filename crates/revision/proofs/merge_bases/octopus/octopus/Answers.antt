@@ -8,43 +8,43 @@ use Rattle.ancestry.specs.declared.id.Id.{Id}
 use Rattle.history.proofs.Sames.{same_then}
 use Rattle.revision.proofs.Members.{every_some, octopus_plain, octopus_walked, enough, answered}
 use Rattle.revision.proofs.merge_bases.octopus.octopus.Goals as goal
-use Rattle.revision.proofs.merge_bases.octopus.octopus.Goals.{In-default, After-find-common-common}
+use Rattle.revision.proofs.merge_bases.octopus.octopus.Goals.{In-default, After-find_common-common}
 
 -- nothing refuses
 free : (g : _) (c : goal.In-default g) → denied (space_of (length c.args.space.marks.now) (length c.args.space.queue.now) (length c.args.space.stack.now) (length c.args.answers.now)) (length (g.H.Reader.commits c.args.history.now)) (length c.args.others.now) ≡ None
 free g c =
     let sp = space_of (length c.args.space.marks.now) (length c.args.space.queue.now) (length c.args.space.stack.now) (length c.args.answers.now) in
-    ap (λ (n : ℕ). denied sp n (length c.args.others.now)) (sym c.count-count.ensures.answer) ∙ sym c.denied.ensures ∙ c.in-default.is
+    ap (λ (n : ℕ). denied sp n (length c.args.others.now)) (sym c.count-count.ensures.answer) ∙ sym c.denied.ensures ∙ c.in_default.is
 
 pub bounds-answers-0 : goal.bounds-answers-0
 bounds-answers-0 g c = let h = enough _ _ _ (free g (goal.at.bounds-answers-0 g c).In-default) in omega (arith, h.answers)
 
-pub returns-then-all-same : goal.returns-then-all-same
-returns-then-all-same g c = record {
+pub returns-then-all_same : goal.returns-then-all_same
+returns-then-all_same g c = record {
   same = c.count-count.ensures.same;
-  answer = answered _ _ _ (free g (goal.at.returns-then-all-same g c).In-default) (octopus_plain _ _ _ (sym c.all-same.ensures ∙ c.if-all-same.true));
+  answer = answered _ _ _ (free g (goal.at.returns-then-all_same g c).In-default) (octopus_plain _ _ _ (sym c.all_same.ensures ∙ c.if-all_same.true));
   slots = refl;
   marks = tt;
   queue = tt;
   stack = tt;
 }
 
-pub split-at-mut-results-requires : goal.split-at-mut-results-requires
-split-at-mut-results-requires g c = let h = enough _ _ _ (free g (goal.at.split-at-mut-results-requires g c).In-default) in omega (arith, h.stack, c.count-count.ensures.answer)
+pub split_at_mut-results-requires : goal.split_at_mut-results-requires
+split_at_mut-results-requires g c = let h = enough _ _ _ (free g (goal.at.split_at_mut-results-requires g c).In-default) in omega (arith, h.stack, c.count-count.ensures.answer)
 
-pub slice-bounds-find-common-end : goal.slice-bounds-find-common-end
-slice-bounds-find-common-end g c = let h = enough _ _ _ (free g (goal.at.slice-bounds-find-common-end g c).In-default) in omega (arith, h.marks, c.count-count.ensures.answer)
+pub slice-bounds-find_common-end : goal.slice-bounds-find_common-end
+slice-bounds-find_common-end g c = let h = enough _ _ _ (free g (goal.at.slice-bounds-find_common-end g c).In-default) in omega (arith, h.marks, c.count-count.ensures.answer)
 
-pub find-common-common-requires : goal.find-common-common-requires
-find-common-common-requires g c =
-    let h = enough _ _ _ (free g (goal.at.find-common-common-requires g c).In-default) in
+pub find_common-common-requires : goal.find_common-common-requires
+find_common-common-requires g c =
+    let h = enough _ _ _ (free g (goal.at.find_common-common-requires g c).In-default) in
     let s = c.count-count.ensures.same in
     let n = ap length s.list in
     let e = c.count-count.ensures.answer in
-    let p = c.split-at-mut-results.ensures in
+    let p = c.split_at_mut-results.ensures in
     record {
       whole = s.still;
-      some = every_some (num c.args.first) c.args.others.now (sym c.all-same.ensures ∙ c.if-all-same.false);
+      some = every_some (num c.args.first) c.args.others.now (sym c.all_same.ensures ∙ c.if-all_same.false);
       marks = length-take-le _ c.args.space.marks.now (omega (arith, h.marks, e)) ∙ (omega (arith, n, e));
       queue = omega (arith, n, h.queue);
       results = omega (arith, n, e, p.front-len);
@@ -52,17 +52,17 @@ find-common-common-requires g c =
     }
 
 -- the commit found is the one that is asked for
-found : (g : _) (c : goal.After-find-common-common g) → num_if c.find-common-common.result ≡ octopus (g.H.Reader.commits c.args.history.now) (num c.args.first) (nums c.args.others.now)
+found : (g : _) (c : goal.After-find_common-common g) → num_if c.find_common-common.result ≡ octopus (g.H.Reader.commits c.args.history.now) (num c.args.first) (nums c.args.others.now)
 found g c =
     let f = num c.args.first in
     let zs = nums c.args.others.now in
-    octopus_walked _ f zs _ (sym c.all-same.ensures ∙ c.if-all-same.false)
-    (c.find-common-common.ensures.answer ∙ ap (λ (x : List Commit). head (ids x (best x (shared_by_all x f zs)))) c.count-count.ensures.same.list)
+    octopus_walked _ f zs _ (sym c.all_same.ensures ∙ c.if-all_same.false)
+    (c.find_common-common.ensures.answer ∙ ap (λ (x : List Commit). head (ids x (best x (shared_by_all x f zs)))) c.count-count.ensures.same.list)
 
-pub returns-in-default-common : goal.returns-in-default-common
-returns-in-default-common g c = record {
-  same = same_then c.count-count.ensures.same c.find-common-common.ensures.same;
-  answer = answered _ _ _ (free g (goal.at.returns-in-default-common g c).In-default) (ap num_if (sym c.in-default-common.is) ∙ found g (goal.at.returns-in-default-common g c).After-find-common-common);
+pub returns-in_default-common : goal.returns-in_default-common
+returns-in_default-common g c = record {
+  same = same_then c.count-count.ensures.same c.find_common-common.ensures.same;
+  answer = answered _ _ _ (free g (goal.at.returns-in_default-common g c).In-default) (ap num_if (sym c.in_default-common.is) ∙ found g (goal.at.returns-in_default-common g c).After-find_common-common);
   slots = refl;
   marks = tt;
   queue = tt;
@@ -74,8 +74,8 @@ bounds-answers-0-2 g c = let h = enough _ _ _ (free g (goal.at.bounds-answers-0-
 
 pub returns : goal.returns
 returns g c = record {
-  same = same_then c.count-count.ensures.same c.find-common-common.ensures.same;
-  answer = answered _ _ _ (free g (goal.at.returns g c).In-default) (ap num_if (sym c.in-Some-common.is) ∙ found g (goal.at.returns g c).After-find-common-common);
+  same = same_then c.count-count.ensures.same c.find_common-common.ensures.same;
+  answer = answered _ _ _ (free g (goal.at.returns g c).In-default) (ap num_if (sym c.in-Some-common.is) ∙ found g (goal.at.returns g c).After-find_common-common);
   slots = refl;
   marks = tt;
   queue = tt;

@@ -4,11 +4,11 @@ use Rattle.ancestry.proofs.Join.{place_says}
 use Rattle.revision.proofs.Folds.{start_held, start_none}
 use Rattle.revision.proofs.merge_bases.octopus.start.Goals as goal
 
-pub returns-in-default : goal.returns-in-default
-returns-in-default g c = record {
+pub returns-in_default : goal.returns-in_default
+returns-in_default g c = record {
   same = c.find.ensures.same;
   few = omega arith;
-  spans = start_none _ (g.H.Reader.lawful c.args.history.now c.requires.whole).lawful (num c.args.first) (sym c.find.ensures.answer ∙ c.in-default.is);
+  spans = start_none _ (g.H.Reader.lawful c.args.history.now c.requires.whole).lawful (num c.args.first) (sym c.find.ensures.answer ∙ c.in_default.is);
 }
 
 pub bounds-results-0 : goal.bounds-results-0

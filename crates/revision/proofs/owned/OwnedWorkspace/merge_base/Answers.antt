@@ -10,10 +10,10 @@ pub returns : goal.returns
 returns g c =
     let H = g.H.Reader.commits c.args.history.now in
     let n = length (bases H (num c.args.first) (nums c.args.others.now)) in
-    let l = space_same _ _ _ _ _ _ _ _ c.as-mut-slice.ensures.len c.as-mut-slice-2.ensures.len c.as-mut-slice-3.ensures.len c.as-mut-slice-4.ensures.len in
+    let l = space_same _ _ _ _ _ _ _ _ c.as_mut_slice.ensures.len c.as_mut_slice-2.ensures.len c.as_mut_slice-3.ensures.len c.as_mut_slice-4.ensures.len in
     record {
-      same = c.ask-bases.ensures.same;
+      same = c.ask_bases.ensures.same;
       sizes = refl;
-      answer = c.ask-bases.ensures.answer ∙ ap (λ (s : Space). unless (denied s (length H) (length c.args.others.now)) n) l;
-      slots = listed_same _ _ _ _ _ _ c.as-mut-slice-4.ensures.value (with_items_is c.args.self.now.answers c.ask-bases.new.answers (c.ask-bases.auto.answers ∙ c.as-mut-slice-4.ensures.len)) c.ask-bases.ensures.slots;
+      answer = c.ask_bases.ensures.answer ∙ ap (λ (s : Space). unless (denied s (length H) (length c.args.others.now)) n) l;
+      slots = listed_same _ _ _ _ _ _ c.as_mut_slice-4.ensures.value (with_items_is c.args.self.now.answers c.ask_bases.new.answers (c.ask_bases.auto.answers ∙ c.as_mut_slice-4.ensures.len)) c.ask_bases.ensures.slots;
     }

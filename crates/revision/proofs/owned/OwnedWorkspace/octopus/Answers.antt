@@ -11,11 +11,11 @@ pub returns : goal.returns
 returns g c =
     let H = g.H.Reader.commits c.args.history.now in
     let o = octopus H (num c.args.first) (nums c.args.others.now) in
-    let l = space_same _ _ _ _ _ _ _ _ c.as-mut-slice.ensures.len c.as-mut-slice-2.ensures.len c.as-mut-slice-3.ensures.len c.as-mut-slice-4.ensures.len in
+    let l = space_same _ _ _ _ _ _ _ _ c.as_mut_slice.ensures.len c.as_mut_slice-2.ensures.len c.as_mut_slice-3.ensures.len c.as_mut_slice-4.ensures.len in
     record {
-      same = c.ask-common.ensures.same;
+      same = c.ask_common.ensures.same;
       sizes = refl;
-      answer = c.ask-common.ensures.answer ∙ ap (λ (s : Space). unless (denied s (length H) (length c.args.others.now)) o) l;
-      slots = with_items_is c.args.self.now.answers c.ask-common.new.answers (c.ask-common.auto.answers ∙ c.as-mut-slice-4.ensures.len)
-          ∙ c.ask-common.ensures.slots ∙ ap (λ (x : List Id). first_slot x c.ask-common.result) c.as-mut-slice-4.ensures.value;
+      answer = c.ask_common.ensures.answer ∙ ap (λ (s : Space). unless (denied s (length H) (length c.args.others.now)) o) l;
+      slots = with_items_is c.args.self.now.answers c.ask_common.new.answers (c.ask_common.auto.answers ∙ c.as_mut_slice-4.ensures.len)
+          ∙ c.ask_common.ensures.slots ∙ ap (λ (x : List Id). first_slot x c.ask_common.result) c.as_mut_slice-4.ensures.value;
     }
