@@ -6,12 +6,12 @@ use Rattle.ancestry.proofs.hex.byte.Goals as goal
 pub returns-in_err-high : goal.returns-in_err-high
 returns-in_err-high c =
     let e = reading_two c.args.text.now c.args.at c.requires in
-    rw c.from-residual.ensures (record { value = joined_none 16 _ _ c.in_err-high.ensures.value ∙ sym e; small = tt })
+    rw c.from_residual.ensures (record { value = joined_none 16 _ _ c.in_err-high.ensures.value ∙ sym e; small = tt })
 
 pub returns-in_err-low : goal.returns-in_err-low
 returns-in_err-low c =
     let e = reading_two c.args.text.now c.args.at c.requires in
-    rw c.from-residual-in_err-low.ensures (record {
+    rw c.from_residual-in_err-low.ensures (record {
       value = joined_half 16 _ _ _ c.in_ok-high.ensures.value c.in_err-low.ensures.value ∙ sym e;
       small = tt;
     })

@@ -8,12 +8,12 @@ use Rattle.orders.proofs.number.date.Goals as goal
 pub returns-in_err-decimal : goal.returns-in_err-decimal
 returns-in_err-decimal c =
     let t = c.args.text.now in
-    c.from-residual.ensures
+    c.from_residual.ensures
     ∙ date_minus t None (sym c.if-starts_with.ensures) (c.in_err-decimal.ensures ∙ ap decimal_of (take_rest t 1))
 
 pub returns-in_err-decimal-2 : goal.returns-in_err-decimal-2
 returns-in_err-decimal-2 c =
-    c.from-residual-in_err-decimal-2.ensures
+    c.from_residual-in_err-decimal-2.ensures
     ∙ date_plain c.args.text.now None (sym c.if-starts_with.ensures) c.in_err-decimal-2.ensures
 
 pub returns-then-starts_with : goal.returns-then-starts_with

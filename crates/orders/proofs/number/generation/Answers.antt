@@ -15,7 +15,7 @@ returns-in_err-decimal c =
       | else-text-eq1-via-then-text-eq1+else-starts_with w ↦ not_minus t w.if-text-eq1.true (sym w.if-starts_with.ensures)
       | else-text-eq1-via-else-text-eq1 w ↦ not_alone t w.if-text-eq1.false
     ] in
-    c.from-residual.ensures ∙ generation_plain t None plain c.in_err-decimal.ensures
+    c.from_residual.ensures ∙ generation_plain t None plain c.in_err-decimal.ensures
 
 pub returns : goal.returns
 returns c =

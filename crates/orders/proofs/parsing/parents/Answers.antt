@@ -34,7 +34,7 @@ returns c =
 
 pub returns-in_err-parent_at : goal.returns-in_err-parent_at
 returns-in_err-parent_at c =
-    let p = err_from_is_err_and c.from-residual.result c.from-residual.ensures.1 in
+    let p = err_from_is_err_and c.from_residual.result c.from_residual.ensures.1 in
     let fs = texts c.args.fields.now in
     let n = c.loop-number.number in
     let ps = vec_items c.loop-number.parents in

@@ -28,7 +28,7 @@ returns c =
 
 pub returns-in_err-id_at : goal.returns-in_err-id_at
 returns-in_err-id_at c =
-    let p = err_from_is_err_and c.from-residual.result c.from-residual.ensures.1 in
+    let p = err_from_is_err_and c.from_residual.result c.from_residual.ensures.1 in
     let fs = texts c.args.fields.now in
     let n = c.loop-number.number in
     let l : n ≤ length fs = omega (arith, length-map c.args.fields.now (λ f. f.now), c.loop-number-test.true) in

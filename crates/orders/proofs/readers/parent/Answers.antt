@@ -10,7 +10,7 @@ use Rattle.orders.proofs.readers.parent.Goals as goal
 pub returns-in_err-decimal : goal.returns-in_err-decimal
 returns-in_err-decimal c =
     let t = c.args.text.now in
-    ap (option_map via) c.from-residual.ensures
+    ap (option_map via) c.from_residual.ensures
     ∙ parent_place t None (sym c.if-starts_with.ensures) (c.in_err-decimal.ensures ∙ ap decimal_of (take_rest t 1))
 
 pub returns-then-starts_with : goal.returns-then-starts_with
@@ -21,7 +21,7 @@ returns-then-starts_with c =
 
 pub returns-in_err-from_hex : goal.returns-in_err-from_hex
 returns-in_err-from_hex c =
-    ap (option_map via) c.from-residual-in_err-from_hex.ensures
+    ap (option_map via) c.from_residual-in_err-from_hex.ensures
     ∙ parent_named c.args.text.now None (sym c.if-starts_with.ensures) c.in_err-from_hex.ensures
 
 pub returns : goal.returns

@@ -8,27 +8,27 @@ returns-then-text-ne40 c = not_forty c.args.text.now c.if-text-ne40.true
 pub returns-in_err-first : goal.returns-in_err-first
 returns-in_err-first c =
     let n : length c.args.text.now ≡ 40 = omega arith in
-    rw c.from-residual.ensures (forty_none_0 c.args.text.now n c.in_err-first.ensures)
+    rw c.from_residual.ensures (forty_none_0 c.args.text.now n c.in_err-first.ensures)
 
 pub returns-in_err-second : goal.returns-in_err-second
 returns-in_err-second c =
     let n : length c.args.text.now ≡ 40 = omega arith in
-    rw c.from-residual-in_err-second.ensures (forty_none_1 c.args.text.now n c.in_ok-first.first c.in_ok-first.ensures c.in_err-second.ensures)
+    rw c.from_residual-in_err-second.ensures (forty_none_1 c.args.text.now n c.in_ok-first.first c.in_ok-first.ensures c.in_err-second.ensures)
 
 pub returns-in_err-third : goal.returns-in_err-third
 returns-in_err-third c =
     let n : length c.args.text.now ≡ 40 = omega arith in
-    rw c.from-residual-in_err-third.ensures (forty_none_2 c.args.text.now n c.in_ok-first.first c.in_ok-first.ensures c.in_ok-second.second c.in_ok-second.ensures c.in_err-third.ensures)
+    rw c.from_residual-in_err-third.ensures (forty_none_2 c.args.text.now n c.in_ok-first.first c.in_ok-first.ensures c.in_ok-second.second c.in_ok-second.ensures c.in_err-third.ensures)
 
 pub returns-in_err-fourth : goal.returns-in_err-fourth
 returns-in_err-fourth c =
     let n : length c.args.text.now ≡ 40 = omega arith in
-    rw c.from-residual-in_err-fourth.ensures (forty_none_3 c.args.text.now n c.in_ok-first.first c.in_ok-first.ensures c.in_ok-second.second c.in_ok-second.ensures c.in_ok-third.third c.in_ok-third.ensures c.in_err-fourth.ensures)
+    rw c.from_residual-in_err-fourth.ensures (forty_none_3 c.args.text.now n c.in_ok-first.first c.in_ok-first.ensures c.in_ok-second.second c.in_ok-second.ensures c.in_ok-third.third c.in_ok-third.ensures c.in_err-fourth.ensures)
 
 pub returns-in_err-fifth : goal.returns-in_err-fifth
 returns-in_err-fifth c =
     let n : length c.args.text.now ≡ 40 = omega arith in
-    rw c.from-residual-in_err-fifth.ensures (forty_none_4 c.args.text.now n c.in_ok-first.first c.in_ok-first.ensures c.in_ok-second.second c.in_ok-second.ensures c.in_ok-third.third c.in_ok-third.ensures c.in_ok-fourth.fourth c.in_ok-fourth.ensures c.in_err-fifth.ensures)
+    rw c.from_residual-in_err-fifth.ensures (forty_none_4 c.args.text.now n c.in_ok-first.first c.in_ok-first.ensures c.in_ok-second.second c.in_ok-second.ensures c.in_ok-third.third c.in_ok-third.ensures c.in_ok-fourth.fourth c.in_ok-fourth.ensures c.in_err-fifth.ensures)
 
 pub returns : goal.returns
 returns c =
