@@ -69,9 +69,9 @@ fn parent_places<H: Reader>(
     history: &mut H,
     parents: &[Parent],
 ) -> Result<Vec<usize>, AllocError>
-    requires { whole history.old }
-    ensures same { Same whole commits room history.old history.new }
-    ensures answer { IfOk result (λ v. v.items ≡ map (place_in (commits history.old)) (map via parents.now)) }
+    requires { H.whole history.old }
+    ensures same { Same H.whole H.commits H.room history.old history.new }
+    ensures answer { IfOk result (λ v. v.items ≡ map (place_in (H.commits history.old)) (map via parents.now)) }
 {
     let mut places = Vec::new(heap);
     for parent in parents {
@@ -84,9 +84,9 @@ fn parent_places<H: Reader>(
 ///
 /// An id that is not held is given as a place that no history has, so that intake itself refuses it.
 pub fn parent_place<H: Reader>(history: &mut H, parent: Parent) -> usize
-    requires { whole history.old }
-    ensures same { Same whole commits room history.old history.new }
-    ensures answer { result ≡ place_in (commits history.old) (via parent) }
+    requires { H.whole history.old }
+    ensures same { Same H.whole H.commits H.room history.old history.new }
+    ensures answer { result ≡ place_in (H.commits history.old) (via parent) }
 {
     match parent {
         Parent::Place(place) => place,

@@ -15,7 +15,7 @@ pub trait History: Reader {
         date: i64,
         parents: &[usize],
     ) -> Result<usize, Refusal>
-        requires { whole self.old }
-        ensures grown { Grown whole commits room self.old (offered id generation date parents.now) self.new }
-        ensures answer { result ≡ placed (refusal (room self.old) (commits self.old) (offered id generation date parents.now)) (length (commits self.old)) };
+        requires { Self.whole self.old }
+        ensures grown { Grown Self.whole Self.commits Self.room self.old (offered id generation date parents.now) self.new }
+        ensures answer { result ≡ placed (refusal (Self.room self.old) (Self.commits self.old) (offered id generation date parents.now)) (length (Self.commits self.old)) };
 }

@@ -26,9 +26,9 @@ pub fn refuses<H: Reader>(
     date: i64,
     parents: &[usize],
 ) -> Option<Refusal>
-    requires { whole history.old }
-    ensures same { Same whole commits room history.old history.new }
-    ensures answer { result ≡ refusal (room history.old) (commits history.old) (offered id generation date parents.now) }
+    requires { H.whole history.old }
+    ensures same { Same H.whole H.commits H.room history.old history.new }
+    ensures answer { result ≡ refusal (H.room history.old) (H.commits history.old) (offered id generation date parents.now) }
 {
     if !in_range(date) {
         return Some(Refusal::DateOutOfRange);
@@ -82,9 +82,9 @@ fn too_high(generation: Option<u32>) -> bool
 
 // Whether a parent is no place in the history.
 fn no_such<H: Reader>(history: &mut H, parents: &[usize]) -> bool
-    requires { whole history.old }
-    ensures same { Same whole commits room history.old history.new }
-    ensures answer { result ≡ any (λ p. nat_le (length (commits history.old)) p) parents.now }
+    requires { H.whole history.old }
+    ensures same { Same H.whole H.commits H.room history.old history.new }
+    ensures answer { result ≡ any (λ p. nat_le (length (H.commits history.old)) p) parents.now }
 {
     let count = history.count();
     for place in parents {
@@ -97,9 +97,9 @@ fn no_such<H: Reader>(history: &mut H, parents: &[usize]) -> bool
 
 // Whether the generation of a parent that is a place exceeds this one.
 fn rises<H: Reader>(history: &mut H, generation: u32, parents: &[usize]) -> bool
-    requires { whole history.old }
-    ensures same { Same whole commits room history.old history.new }
-    ensures answer { result ≡ any (exceeds (commits history.old) generation) parents.now }
+    requires { H.whole history.old }
+    ensures same { Same H.whole H.commits H.room history.old history.new }
+    ensures answer { result ≡ any (exceeds (H.commits history.old) generation) parents.now }
 {
     for place in parents {
         if exceeded(history, *place, generation) {
@@ -111,9 +111,9 @@ fn rises<H: Reader>(history: &mut H, generation: u32, parents: &[usize]) -> bool
 
 // Whether the place holds a commit whose generation exceeds this one.
 fn exceeded<H: Reader>(history: &mut H, place: usize, generation: u32) -> bool
-    requires { whole history.old }
-    ensures same { Same whole commits room history.old history.new }
-    ensures answer { result ≡ exceeds (commits history.old) generation place }
+    requires { H.whole history.old }
+    ensures same { Same H.whole H.commits H.room history.old history.new }
+    ensures answer { result ≡ exceeds (H.commits history.old) generation place }
 {
     match history.read(place) {
         Some(entry) => rank(entry.generation) > generation,

@@ -30,10 +30,10 @@ pub(crate) fn add(queue: &mut Queue<'_, Keyed>, e: Keyed)
 
 /// The queue's entry for a place.
 pub(crate) fn keyed<H: Reader>(history: &mut H, place: usize) -> Keyed
-    requires whole { whole history.old }
-    requires below { place < length (commits history.old) }
-    ensures same { Same whole commits room history.old history.new }
-    ensures keys { Keys (commits history.old) place result }
+    requires whole { H.whole history.old }
+    requires below { place < length (H.commits history.old) }
+    ensures same { Same H.whole H.commits H.room history.old history.new }
+    ensures keys { Keys (H.commits history.old) place result }
 {
     let entry = history.read(place).unwrap();
     Keyed {
@@ -53,11 +53,11 @@ pub(crate) fn hand<H: Reader>(
     told: Told,
     live: usize,
 ) -> usize
-    requires whole { whole history.old }
-    requires size { length marks.old ≡ length (commits history.old) }
-    requires below { place < length (commits history.old) }
+    requires whole { H.whole history.old }
+    requires size { length marks.old ≡ length (H.commits history.old) }
+    requires below { place < length (H.commits history.old) }
     requires kept { Kept (flags marks.old) queue.old live }
-    ensures same { Same whole commits room history.old history.new }
+    ensures same { Same H.whole H.commits H.room history.old history.new }
     ensures marks { flags marks.new ≡ hand told place (flags marks.old) }
     ensures kept { Kept (flags marks.new) queue.new result }
 {
@@ -75,10 +75,10 @@ pub(crate) fn hand<H: Reader>(
 
 /// How many parents a place has.
 pub(crate) fn parents_of<H: Reader>(history: &mut H, place: usize) -> usize
-    requires whole { whole history.old }
-    requires below { place < length (commits history.old) }
-    ensures same { Same whole commits room history.old history.new }
-    ensures answer { result ≡ length (parents_of (commits history.old) place) }
+    requires whole { H.whole history.old }
+    requires below { place < length (H.commits history.old) }
+    ensures same { Same H.whole H.commits H.room history.old history.new }
+    ensures answer { result ≡ length (parents_of (H.commits history.old) place) }
 {
     history.read(place).unwrap().parents
 }
@@ -92,12 +92,12 @@ pub(crate) fn hand_all<H: Reader>(
     told: Told,
     mut live: usize,
 ) -> usize
-    requires whole { whole history.old }
-    requires size { length marks.old ≡ length (commits history.old) }
-    requires below { place < length (commits history.old) }
+    requires whole { H.whole history.old }
+    requires size { length marks.old ≡ length (H.commits history.old) }
+    requires below { place < length (H.commits history.old) }
     requires kept { Kept (flags marks.old) queue.old live }
-    ensures same { Same whole commits room history.old history.new }
-    ensures marks { flags marks.new ≡ hand_all told (parents_of (commits history.old) place) (flags marks.old) }
+    ensures same { Same H.whole H.commits H.room history.old history.new }
+    ensures marks { flags marks.new ≡ hand_all told (parents_of (H.commits history.old) place) (flags marks.old) }
     ensures kept { Kept (flags marks.new) queue.new result }
 {
     for n in 0..parents_of(history, place) {

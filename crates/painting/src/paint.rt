@@ -42,13 +42,13 @@ pub fn paint_down_to_common<H: Reader>(
     slots: &mut [Keyed],
     results: &mut [usize],
 ) -> usize
-    requires whole { whole history.old }
-    requires size { length marks.old ≡ length (commits history.old) }
-    requires slots { length (commits history.old) ≤ length slots.old }
-    requires results { length (commits history.old) ≤ length results.old }
-    ensures same { Same whole commits room history.old history.new }
-    ensures few { result ≤ length (commits history.old) }
-    ensures painted { Painted (commits history.old) (shared (commits history.old) (num first) (nums others.now)) (flags marks.new) (take result results.new) }
+    requires whole { H.whole history.old }
+    requires size { length marks.old ≡ length (H.commits history.old) }
+    requires slots { length (H.commits history.old) ≤ length slots.old }
+    requires results { length (H.commits history.old) ≤ length results.old }
+    ensures same { Same H.whole H.commits H.room history.old history.new }
+    ensures few { result ≤ length (H.commits history.old) }
+    ensures painted { Painted (H.commits history.old) (shared (H.commits history.old) (num first) (nums others.now)) (flags marks.new) (take result results.new) }
 {
     clear(marks);
     let mut queue = Queue::new(slots);
@@ -66,15 +66,15 @@ pub fn paint_from_places<H: Reader>(
     slots: &mut [Keyed],
     results: &mut [usize],
 ) -> usize
-    requires whole { whole history.old }
-    requires size { length marks.old ≡ length (commits history.old) }
-    requires slots { length (commits history.old) ≤ length slots.old }
-    requires results { length (commits history.old) ≤ length results.old }
+    requires whole { H.whole history.old }
+    requires size { length marks.old ≡ length (H.commits history.old) }
+    requires slots { length (H.commits history.old) ≤ length slots.old }
+    requires results { length (H.commits history.old) ≤ length results.old }
     requires few { count ≤ length results.old }
-    requires inside { (s : ℕ) → member s (take count results.old) ≡ true → s < length (commits history.old) }
-    ensures same { Same whole commits room history.old history.new }
-    ensures few { result ≤ length (commits history.old) }
-    ensures painted { Painted (commits history.old) (meeting (commits history.old) (num id) (take count results.old)) (flags marks.new) (take result results.new) }
+    requires inside { (s : ℕ) → member s (take count results.old) ≡ true → s < length (H.commits history.old) }
+    ensures same { Same H.whole H.commits H.room history.old history.new }
+    ensures few { result ≤ length (H.commits history.old) }
+    ensures painted { Painted (H.commits history.old) (meeting (H.commits history.old) (num id) (take count results.old)) (flags marks.new) (take result results.new) }
 {
     clear(marks);
     let mut queue = Queue::new(slots);
@@ -91,17 +91,17 @@ fn paint<H: Reader>(
     mut live: usize,
     results: &mut [usize],
 ) -> usize
-    requires whole { whole history.old }
-    requires size { length marks.old ≡ length (commits history.old) }
-    requires room { length (commits history.old) ≤ length results.old }
+    requires whole { H.whole history.old }
+    requires size { length marks.old ≡ length (H.commits history.old) }
+    requires room { length (H.commits history.old) ≤ length results.old }
     requires kept { Kept (flags marks.old) queue.old live }
     requires none { Noted (flags marks.old) [] }
     requires unmet { Unmet (flags marks.old) }
-    ensures same { Same whole commits room history.old history.new }
-    ensures good { (A B : ℕ → Bool) → Down (commits history.old) A → Down (commits history.old) B → Good (commits history.old) A B (flags marks.old) → Good (commits history.old) A B (flags marks.new) }
+    ensures same { Same H.whole H.commits H.room history.old history.new }
+    ensures good { (A B : ℕ → Bool) → Down (H.commits history.old) A → Down (H.commits history.old) B → Good (H.commits history.old) A B (flags marks.old) → Good (H.commits history.old) A B (flags marks.new) }
     ensures idle { total lively (flags marks.new) ≡ 0 }
     ensures noted { Noted (flags marks.new) (take result results.new) }
-    ensures few { result ≤ length (commits history.old) }
+    ensures few { result ≤ length (H.commits history.old) }
     ensures unmet { Unmet (flags marks.new) }
 {
     let mut found = 0;

@@ -24,15 +24,15 @@ pub fn remove_redundant<H: Reader>(
     found: usize,
     stack: &mut [usize],
 ) -> usize
-    requires whole { whole history.old }
-    requires size { length marks.old ≡ length (commits history.old) }
+    requires whole { H.whole history.old }
+    requires size { length marks.old ≡ length (H.commits history.old) }
     requires few { found ≤ length results.old }
-    requires stack { length (commits history.old) ≤ length stack.old }
-    requires inside { (p : ℕ) → member p (take found results.old) ≡ true → p < length (commits history.old) }
+    requires stack { length (H.commits history.old) ≤ length stack.old }
+    requires inside { (p : ℕ) → member p (take found results.old) ≡ true → p < length (H.commits history.old) }
     requires unmet { Unmet (flags marks.old) }
-    ensures same { Same whole commits room history.old history.new }
+    ensures same { Same H.whole H.commits H.room history.old history.new }
     ensures few { result ≤ found }
-    ensures bests { (S : ℕ → Bool) → Painted (commits history.old) S (flags marks.old) (take found results.old) → Bests (commits history.old) S (take result results.new) }
+    ensures bests { (S : ℕ → Bool) → Painted (H.commits history.old) S (flags marks.old) (take found results.old) → Bests (H.commits history.old) S (take result results.new) }
 {
     let count = retain(marks, results, found);
     if count <= 1 {
@@ -61,10 +61,10 @@ fn retain(marks: &[u64], places: &mut [usize], count: usize) -> usize
 
 // The smallest generation among the places.
 fn lowest<H: Reader>(history: &mut H, places: &[usize]) -> u32
-    requires whole { whole history.old }
-    requires inside { (p : ℕ) → member p places.now ≡ true → p < length (commits history.old) }
-    ensures same { Same whole commits room history.old history.new }
-    ensures least { (p : ℕ) → member p places.now ≡ true → result ≤ level (commits history.old) p }
+    requires whole { H.whole history.old }
+    requires inside { (p : ℕ) → member p places.now ≡ true → p < length (H.commits history.old) }
+    ensures same { Same H.whole H.commits H.room history.old history.new }
+    ensures least { (p : ℕ) → member p places.now ≡ true → result ≤ level (H.commits history.old) p }
 {
     let mut low = u32::MAX;
     for place in places {
@@ -81,14 +81,14 @@ fn start<H: Reader>(
     stack: &mut [usize],
     low: u32,
 ) -> usize
-    requires whole { whole history.old }
-    requires size { length marks.old ≡ length (commits history.old) }
-    requires inside { (p : ℕ) → member p places.now ≡ true → p < length (commits history.old) }
+    requires whole { H.whole history.old }
+    requires size { length marks.old ≡ length (H.commits history.old) }
+    requires inside { (p : ℕ) → member p places.now ≡ true → p < length (H.commits history.old) }
     requires unmet { Unmet (flags marks.old) }
     requires fresh { Fresh places.now (flags marks.old) }
-    requires room { length (commits history.old) ≤ length stack.old }
-    ensures same { Same whole commits room history.old history.new }
-    ensures tracked { Tracked (commits history.old) low places.now places.now (walk_of (flags marks.new) stack.new result) }
+    requires room { length (H.commits history.old) ≤ length stack.old }
+    ensures same { Same H.whole H.commits H.room history.old history.new }
+    ensures tracked { Tracked (H.commits history.old) low places.now places.now (walk_of (flags marks.new) stack.new result) }
     ensures room { result + total unmet (flags marks.new) ≤ length stack.new }
 {
     let mut depth = 0;
@@ -106,12 +106,12 @@ fn walk<H: Reader>(
     mut depth: usize,
     low: u32,
 )
-    requires whole { whole history.old }
-    requires size { length marks.old ≡ length (commits history.old) }
+    requires whole { H.whole history.old }
+    requires size { length marks.old ≡ length (H.commits history.old) }
     requires room { depth + total unmet (flags marks.old) ≤ length stack.old }
-    requires inside { (x : ℕ) → member x (take depth stack.old) ≡ true → x < length (commits history.old) }
-    ensures same { Same whole commits room history.old history.new }
-    ensures tracked { (rs bs : List ℕ) → Tracked (commits history.old) low rs bs (walk_of (flags marks.old) stack.old depth) → Tracked (commits history.old) low rs bs (walk_of (flags marks.new) stack.new 0) }
+    requires inside { (x : ℕ) → member x (take depth stack.old) ≡ true → x < length (H.commits history.old) }
+    ensures same { Same H.whole H.commits H.room history.old history.new }
+    ensures tracked { (rs bs : List ℕ) → Tracked (H.commits history.old) low rs bs (walk_of (flags marks.old) stack.old depth) → Tracked (H.commits history.old) low rs bs (walk_of (flags marks.new) stack.new 0) }
 {
     while depth > 0 {
         depth -= 1;
@@ -129,12 +129,12 @@ fn meet_all<H: Reader>(
     place: usize,
     low: u32,
 ) -> usize
-    requires whole { whole history.old }
-    requires size { length marks.old ≡ length (commits history.old) }
-    requires below { place < length (commits history.old) }
+    requires whole { H.whole history.old }
+    requires size { length marks.old ≡ length (H.commits history.old) }
+    requires below { place < length (H.commits history.old) }
     requires room { depth + total unmet (flags marks.old) ≤ length stack.old }
-    ensures same { Same whole commits room history.old history.new }
-    ensures walk { walk_of (flags marks.new) stack.new result ≡ meet_all (commits history.old) low (parents_of (commits history.old) place) (walk_of (flags marks.old) stack.old depth) }
+    ensures same { Same H.whole H.commits H.room history.old history.new }
+    ensures walk { walk_of (flags marks.new) stack.new result ≡ meet_all (H.commits history.old) low (parents_of (H.commits history.old) place) (walk_of (flags marks.old) stack.old depth) }
     ensures room { result + total unmet (flags marks.new) ≡ depth + total unmet (flags marks.old) }
 {
     for n in 0..parents_of(history, place) {
@@ -153,12 +153,12 @@ fn meet<H: Reader>(
     place: usize,
     low: u32,
 ) -> usize
-    requires whole { whole history.old }
-    requires size { length marks.old ≡ length (commits history.old) }
-    requires below { place < length (commits history.old) }
+    requires whole { H.whole history.old }
+    requires size { length marks.old ≡ length (H.commits history.old) }
+    requires below { place < length (H.commits history.old) }
     requires room { depth + total unmet (flags marks.old) ≤ length stack.old }
-    ensures same { Same whole commits room history.old history.new }
-    ensures walk { walk_of (flags marks.new) stack.new result ≡ meet (commits history.old) low place (walk_of (flags marks.old) stack.old depth) }
+    ensures same { Same H.whole H.commits H.room history.old history.new }
+    ensures walk { walk_of (flags marks.new) stack.new result ≡ meet (H.commits history.old) low place (walk_of (flags marks.old) stack.old depth) }
     ensures room { result + total unmet (flags marks.new) ≡ depth + total unmet (flags marks.old) }
 {
     let mark = get(marks, place);

@@ -33,11 +33,11 @@ pub(crate) fn seed<H: Reader>(
     told: Told,
     live: usize,
 ) -> usize
-    requires whole { whole history.old }
-    requires size { length marks.old ≡ length (commits history.old) }
+    requires whole { H.whole history.old }
+    requires size { length marks.old ≡ length (H.commits history.old) }
     requires kept { Kept (flags marks.old) queue.old live }
-    ensures same { Same whole commits room history.old history.new }
-    ensures marks { flags marks.new ≡ hand_all told (places_of (commits history.old) (num id ∷ [])) (flags marks.old) }
+    ensures same { Same H.whole H.commits H.room history.old history.new }
+    ensures marks { flags marks.new ≡ hand_all told (places_of (H.commits history.old) (num id ∷ [])) (flags marks.old) }
     ensures kept { Kept (flags marks.new) queue.new result }
 {
     let Some(place) = history.find(id) else {
@@ -55,11 +55,11 @@ pub(crate) fn seed_ids<H: Reader>(
     told: Told,
     mut live: usize,
 ) -> usize
-    requires whole { whole history.old }
-    requires size { length marks.old ≡ length (commits history.old) }
+    requires whole { H.whole history.old }
+    requires size { length marks.old ≡ length (H.commits history.old) }
     requires kept { Kept (flags marks.old) queue.old live }
-    ensures same { Same whole commits room history.old history.new }
-    ensures marks { flags marks.new ≡ hand_all told (places_of (commits history.old) (nums ids.now)) (flags marks.old) }
+    ensures same { Same H.whole H.commits H.room history.old history.new }
+    ensures marks { flags marks.new ≡ hand_all told (places_of (H.commits history.old) (nums ids.now)) (flags marks.old) }
     ensures kept { Kept (flags marks.new) queue.new result }
 {
     for id in ids {
@@ -77,11 +77,11 @@ pub(crate) fn seed_places<H: Reader>(
     told: Told,
     mut live: usize,
 ) -> usize
-    requires whole { whole history.old }
-    requires size { length marks.old ≡ length (commits history.old) }
-    requires inside { (s : ℕ) → member s places.now ≡ true → s < length (commits history.old) }
+    requires whole { H.whole history.old }
+    requires size { length marks.old ≡ length (H.commits history.old) }
+    requires inside { (s : ℕ) → member s places.now ≡ true → s < length (H.commits history.old) }
     requires kept { Kept (flags marks.old) queue.old live }
-    ensures same { Same whole commits room history.old history.new }
+    ensures same { Same H.whole H.commits H.room history.old history.new }
     ensures marks { flags marks.new ≡ hand_all told places.now (flags marks.old) }
     ensures kept { Kept (flags marks.new) queue.new result }
 {

@@ -67,9 +67,9 @@ impl OwnedWorkspace {
         heap: Global,
         history: &mut H,
     ) -> Result<OwnedWorkspace, AllocError>
-        requires { whole history.old }
-        ensures same { Same whole commits room history.old history.new }
-        ensures answer { IfOk result (λ w. sizes_of w ≡ needed (room history.old)) }
+        requires { H.whole history.old }
+        ensures same { Same H.whole H.commits H.room history.old history.new }
+        ensures answer { IfOk result (λ w. sizes_of w ≡ needed (H.room history.old)) }
     {
         OwnedWorkspace::for_count(heap, history.capacity())
     }
@@ -81,11 +81,11 @@ impl OwnedWorkspace {
         first: Id,
         others: &[Id],
     ) -> Result<usize, Refusal>
-        requires { whole history.old }
-        ensures same { Same whole commits room history.old history.new }
+        requires { H.whole history.old }
+        ensures same { Same H.whole H.commits H.room history.old history.new }
         ensures sizes { sizes_of self.new ≡ sizes_of self.old }
-        ensures answer { result ≡ unless (denied (sizes_of self.old) (length (commits history.old)) (length others.now)) (length (bases (commits history.old) (num first) (nums others.now))) }
-        ensures slots { Listed (bases (commits history.old) (num first) (nums others.now)) (slots_of self.old) result (slots_of self.new) }
+        ensures answer { result ≡ unless (denied (sizes_of self.old) (length (H.commits history.old)) (length others.now)) (length (bases (H.commits history.old) (num first) (nums others.now))) }
+        ensures slots { Listed (bases (H.commits history.old) (num first) (nums others.now)) (slots_of self.old) result (slots_of self.new) }
     {
         ask_bases(
             history,
@@ -105,10 +105,10 @@ impl OwnedWorkspace {
         first: Id,
         others: &[Id],
     ) -> Result<Option<Id>, Refusal>
-        requires { whole history.old }
-        ensures same { Same whole commits room history.old history.new }
+        requires { H.whole history.old }
+        ensures same { Same H.whole H.commits H.room history.old history.new }
         ensures sizes { sizes_of self.new ≡ sizes_of self.old }
-        ensures answer { numbered result ≡ unless (denied (sizes_of self.old) (length (commits history.old)) (length others.now)) (octopus (commits history.old) (num first) (nums others.now)) }
+        ensures answer { numbered result ≡ unless (denied (sizes_of self.old) (length (H.commits history.old)) (length others.now)) (octopus (H.commits history.old) (num first) (nums others.now)) }
         ensures slots { slots_of self.new ≡ first_slot (slots_of self.old) result }
     {
         ask_common(
@@ -140,10 +140,10 @@ fn ask_bases<H: Reader>(
     stack: &mut [usize],
     answers: &mut [Id],
 ) -> Result<usize, Refusal>
-    requires { whole history.old }
-    ensures same { Same whole commits room history.old history.new }
-    ensures answer { result ≡ unless (denied (space_of (length marks.old) (length queue.old) (length stack.old) (length answers.old)) (length (commits history.old)) (length others.now)) (length (bases (commits history.old) (num first) (nums others.now))) }
-    ensures slots { Listed (bases (commits history.old) (num first) (nums others.now)) answers.old result answers.new }
+    requires { H.whole history.old }
+    ensures same { Same H.whole H.commits H.room history.old history.new }
+    ensures answer { result ≡ unless (denied (space_of (length marks.old) (length queue.old) (length stack.old) (length answers.old)) (length (H.commits history.old)) (length others.now)) (length (bases (H.commits history.old) (num first) (nums others.now))) }
+    ensures slots { Listed (bases (H.commits history.old) (num first) (nums others.now)) answers.old result answers.new }
 {
     let space = Workspace {
         marks,
@@ -163,9 +163,9 @@ fn ask_common<H: Reader>(
     stack: &mut [usize],
     answers: &mut [Id],
 ) -> Result<Option<Id>, Refusal>
-    requires { whole history.old }
-    ensures same { Same whole commits room history.old history.new }
-    ensures answer { numbered result ≡ unless (denied (space_of (length marks.old) (length queue.old) (length stack.old) (length answers.old)) (length (commits history.old)) (length others.now)) (octopus (commits history.old) (num first) (nums others.now)) }
+    requires { H.whole history.old }
+    ensures same { Same H.whole H.commits H.room history.old history.new }
+    ensures answer { numbered result ≡ unless (denied (space_of (length marks.old) (length queue.old) (length stack.old) (length answers.old)) (length (H.commits history.old)) (length others.now)) (octopus (H.commits history.old) (num first) (nums others.now)) }
     ensures slots { answers.new ≡ first_slot answers.old result }
 {
     let space = Workspace {

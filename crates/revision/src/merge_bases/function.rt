@@ -30,10 +30,10 @@ pub fn merge_base<H: Reader>(
     space: Workspace<'_>,
     answers: &mut [Id],
 ) -> Result<usize, Refusal>
-    requires { whole history.old }
-    ensures same { Same whole commits room history.old history.new }
-    ensures answer { result ≡ unless (denied (space_of (length space.entry.marks.now) (length space.entry.queue.now) (length space.entry.stack.now) (length answers.old)) (length (commits history.old)) (length others.now)) (length (bases (commits history.old) (num first) (nums others.now))) }
-    ensures slots { Listed (bases (commits history.old) (num first) (nums others.now)) answers.old result answers.new }
+    requires { H.whole history.old }
+    ensures same { Same H.whole H.commits H.room history.old history.new }
+    ensures answer { result ≡ unless (denied (space_of (length space.entry.marks.now) (length space.entry.queue.now) (length space.entry.stack.now) (length answers.old)) (length (H.commits history.old)) (length others.now)) (length (bases (H.commits history.old) (num first) (nums others.now))) }
+    ensures slots { Listed (bases (H.commits history.old) (num first) (nums others.now)) answers.old result answers.new }
     ensures marks { Stays result space.entry.marks.now space.exit.0.now }
     ensures queue { Stays result space.entry.queue.now space.exit.1.0.now }
     ensures stack { Stays result space.entry.stack.now space.exit.1.1.0.now }
@@ -83,15 +83,15 @@ fn find_bases<H: Reader>(
     walk: &mut [usize],
     answers: &mut [Id],
 ) -> usize
-    requires whole { whole history.old }
-    requires marks { length marks.old ≡ length (commits history.old) }
-    requires queue { length (commits history.old) ≤ length queue.old }
-    requires results { length (commits history.old) ≤ length results.old }
-    requires walk { length (commits history.old) ≤ length walk.old }
-    requires answers { length (commits history.old) ≤ length answers.old }
-    ensures same { Same whole commits room history.old history.new }
-    ensures few { result ≤ length (commits history.old) }
-    ensures written { nums (take result answers.new) ≡ ids (commits history.old) (best (commits history.old) (shared (commits history.old) (num first) (nums others.now))) }
+    requires whole { H.whole history.old }
+    requires marks { length marks.old ≡ length (H.commits history.old) }
+    requires queue { length (H.commits history.old) ≤ length queue.old }
+    requires results { length (H.commits history.old) ≤ length results.old }
+    requires walk { length (H.commits history.old) ≤ length walk.old }
+    requires answers { length (H.commits history.old) ≤ length answers.old }
+    ensures same { Same H.whole H.commits H.room history.old history.new }
+    ensures few { result ≤ length (H.commits history.old) }
+    ensures written { nums (take result answers.new) ≡ ids (H.commits history.old) (best (H.commits history.old) (shared (H.commits history.old) (num first) (nums others.now))) }
     ensures beyond { drop result answers.new ≡ drop result answers.old }
 {
     let found = paint_down_to_common(history, first, others, marks, queue, results);

@@ -32,9 +32,9 @@ pub fn octopus<H: Reader>(
     space: Workspace<'_>,
     answers: &mut [Id],
 ) -> Result<Option<Id>, Refusal>
-    requires { whole history.old }
-    ensures same { Same whole commits room history.old history.new }
-    ensures answer { numbered result ≡ unless (denied (space_of (length space.entry.marks.now) (length space.entry.queue.now) (length space.entry.stack.now) (length answers.old)) (length (commits history.old)) (length others.now)) (octopus (commits history.old) (num first) (nums others.now)) }
+    requires { H.whole history.old }
+    ensures same { Same H.whole H.commits H.room history.old history.new }
+    ensures answer { numbered result ≡ unless (denied (space_of (length space.entry.marks.now) (length space.entry.queue.now) (length space.entry.stack.now) (length answers.old)) (length (H.commits history.old)) (length others.now)) (octopus (H.commits history.old) (num first) (nums others.now)) }
     ensures slots { answers.new ≡ first_slot answers.old result }
     ensures marks { Stays result space.entry.marks.now space.exit.0.now }
     ensures queue { Stays result space.entry.queue.now space.exit.1.0.now }
@@ -87,14 +87,14 @@ fn find_common<H: Reader>(
     results: &mut [usize],
     walk: &mut [usize],
 ) -> Option<Id>
-    requires whole { whole history.old }
+    requires whole { H.whole history.old }
     requires some { 0 < length others.now }
-    requires marks { length marks.old ≡ length (commits history.old) }
-    requires queue { length (commits history.old) ≤ length queue.old }
-    requires results { length (commits history.old) ≤ length results.old }
-    requires walk { length (commits history.old) ≤ length walk.old }
-    ensures same { Same whole commits room history.old history.new }
-    ensures answer { num_if result ≡ head (ids (commits history.old) (best (commits history.old) (shared_by_all (commits history.old) (num first) (nums others.now)))) }
+    requires marks { length marks.old ≡ length (H.commits history.old) }
+    requires queue { length (H.commits history.old) ≤ length queue.old }
+    requires results { length (H.commits history.old) ≤ length results.old }
+    requires walk { length (H.commits history.old) ≤ length walk.old }
+    ensures same { Same H.whole H.commits H.room history.old history.new }
+    ensures answer { num_if result ≡ head (ids (H.commits history.old) (best (H.commits history.old) (shared_by_all (H.commits history.old) (num first) (nums others.now)))) }
 {
     let mut len = start(history, first, results);
     for other in others {
@@ -105,11 +105,11 @@ fn find_common<H: Reader>(
 
 // The place of the first commit, if it is held.
 fn start<H: Reader>(history: &mut H, first: Id, results: &mut [usize]) -> usize
-    requires whole { whole history.old }
-    requires results { length (commits history.old) ≤ length results.old }
-    ensures same { Same whole commits room history.old history.new }
-    ensures few { result ≤ length (commits history.old) }
-    ensures spans { Spans (commits history.old) (num first) [] (take result results.new) }
+    requires whole { H.whole history.old }
+    requires results { length (H.commits history.old) ≤ length results.old }
+    ensures same { Same H.whole H.commits H.room history.old history.new }
+    ensures few { result ≤ length (H.commits history.old) }
+    ensures spans { Spans (H.commits history.old) (num first) [] (take result results.new) }
 {
     let Some(place) = history.find(first) else {
         return 0;
@@ -128,16 +128,16 @@ fn round<H: Reader>(
     results: &mut [usize],
     walk: &mut [usize],
 ) -> usize
-    requires whole { whole history.old }
-    requires marks { length marks.old ≡ length (commits history.old) }
-    requires queue { length (commits history.old) ≤ length queue.old }
-    requires results { length (commits history.old) ≤ length results.old }
-    requires walk { length (commits history.old) ≤ length walk.old }
+    requires whole { H.whole history.old }
+    requires marks { length marks.old ≡ length (H.commits history.old) }
+    requires queue { length (H.commits history.old) ≤ length queue.old }
+    requires results { length (H.commits history.old) ≤ length results.old }
+    requires walk { length (H.commits history.old) ≤ length walk.old }
     requires few { count ≤ length results.old }
-    requires inside { (s : ℕ) → member s (take count results.old) ≡ true → s < length (commits history.old) }
-    ensures same { Same whole commits room history.old history.new }
-    ensures few { result ≤ length (commits history.old) }
-    ensures bests { Bests (commits history.old) (meeting (commits history.old) (num id) (take count results.old)) (take result results.new) }
+    requires inside { (s : ℕ) → member s (take count results.old) ≡ true → s < length (H.commits history.old) }
+    ensures same { Same H.whole H.commits H.room history.old history.new }
+    ensures few { result ≤ length (H.commits history.old) }
+    ensures bests { Bests (H.commits history.old) (meeting (H.commits history.old) (num id) (take count results.old)) (take result results.new) }
 {
     let found = paint_from_places(history, id, count, marks, queue, results);
     remove_redundant(history, marks, results, found, walk)

@@ -9,8 +9,8 @@ returns-then-place-self g c = parent_past c.args.self.now c.requires _ _ c.if-pl
 pub returns-then-n-row : goal.returns-then-n-row
 returns-then-n-row g c = parent_none c.args.self.now c.requires _ _ c.if-place-self.false c.if-n-row.true
 
-pub offset-bounds-row-n : goal.offset-bounds-row-n
-offset-bounds-row-n g c = let n = neat_at c.args.self.now c.requires c.args.place blank c.if-place-self.false in omega (arith, n.few)
+pub offset_bounds-row-n : goal.offset_bounds-row-n
+offset_bounds-row-n g c = let n = neat_at c.args.self.now c.requires c.args.place blank c.if-place-self.false in omega (arith, n.few)
 
 pub bounds-row-n : goal.bounds-row-n
 bounds-row-n g c = let n = neat_at c.args.self.now c.requires c.args.place blank c.if-place-self.false in omega (arith, n.few)
