@@ -4,6 +4,7 @@
 use bundle::run;
 use history::{Reader, Rows};
 use std::io::{BufWriter, Read, Write};
+use std::process::ExitCode;
 use std::{env, fs, io};
 
 const USAGE: &str = "\
@@ -40,16 +41,14 @@ enum Choice<'a> {
     TooMany,
 }
 
-// The program has said why it ends with status 1.
-struct Failed;
-
-fn main(rt: HostRuntime) -> Result<(), Failed> {
+// Where the status is 1, the program has said why.
+fn main(rt: HostRuntime) -> ExitCode {
     match start(&rt) {
-        Ok(true) => Ok(()),
-        Ok(false) => Err(Failed),
+        Ok(true) => ExitCode::SUCCESS,
+        Ok(false) => ExitCode::FAILURE,
         Err(error) => {
             let _ = eprintln!(rt; "ask: {error}");
-            Err(Failed)
+            ExitCode::FAILURE
         }
     }
 }
