@@ -1,14 +1,14 @@
 -- The best of a set.
-use Rattle.std.proofs.Common.{◌≡◌, ℕ, zero, suc, ◌+◌, ◌<◌, ◌≤◌, Bool, true, false, cond, not, ◌&&◌, ◌||◌, eqb, ltb, leb, ◌⊎◌, List, [], ◌∷◌, map, length, get_or, sym, refl, ap, ◌∙◌, subst, inl, inr, ⊎_elim, arith}
-use Rattle.std.proofs.lemmas.Bool.{true≢false, false≢true, both_ways, eqb-true, eqb-false, eq-eqb, ne_eqb, ltb-true, lt-ltb, cases_Bool, or_cases, or_left, or_right, cases_lt, and_parts, and_from, cases_eq, not_from_false}
-use Rattle.ancestry.specs.Sets.{any, every, member, keep, ordered, size}
-use Rattle.ancestry.specs.Commits.{Commit, nobody, at}
+use Rattle.std.proofs.Common.{◌≡◌, ℕ, zero, suc, ◌<◌, ◌≤◌, Bool, true, false, not, ◌&&◌, ◌||◌, eqb, ltb, List, length, sym, refl, ap, ◌∙◌, ⊎_elim, arith}
+use Rattle.std.proofs.lemmas.Bool.{false≢true, eqb-true, eqb-false, eq-eqb, ltb-true, lt-ltb, or_cases, or_left, or_right, and_parts, and_from}
+use Rattle.ancestry.specs.Sets.{member, size}
+use Rattle.ancestry.specs.Commits.{Commit, at}
 use Rattle.ancestry.specs.Reaching.{Reaches, itself, through, reaches}
 use Rattle.ancestry.specs.Keys.{better}
 use Rattle.ancestry.specs.Lawful.{Lawful}
-use Rattle.ancestry.specs.Bases.{ranked, unreached, best, ids}
-use Rattle.ancestry.proofs.Sets.{same, not_so, any_intro, any_elim, any_cong, every_intro, every_elim, every_cong, keep_cong, member-keep, member-ordered, size_most, size_less}
-use Rattle.ancestry.proofs.Reach.{differ, reaches_itself, reaches_sound, reaches_complete, reaches_trans, Reaches-trans}
+use Rattle.ancestry.specs.Bases.{ranked, unreached, best}
+use Rattle.ancestry.proofs.Sets.{same, not_so, every_intro, every_elim, every_cong, keep_cong, member-keep, member-ordered, size_most, size_less}
+use Rattle.ancestry.proofs.Reach.{differ, reaches_itself, reaches_sound, reaches_trans, Reaches-trans}
 
 pub member-ranked : (H : List Commit) (p : ℕ) → member p (ranked H) ≡ ltb p (length H)
 unfolding ranked

@@ -1,5 +1,5 @@
 -- The history with only the parents followed.
-use Rattle.std.proofs.Common.{◌≡◌, ℕ, ◌-◌, Bool, true, false, ◌⊎◌, List, [], map, length, get_or, pos, None, sym, refl, ap, ◌∙◌, inl, inr, ⊎_elim}
+use Rattle.std.proofs.Common.{◌≡◌, ℕ, Bool, true, false, ◌⊎◌, List, [], map, length, get_or, pos, None, sym, refl, ap, ◌∙◌, inl, inr, ⊎_elim}
 use lib.ListN.{length-map, get_or-map}
 use Rattle.ancestry.specs.Sets.{member}
 use Rattle.ancestry.specs.Commits.{Commit, nobody, at}

@@ -1,20 +1,19 @@
 -- What a commit taken in changes, and what it leaves.
-use Rattle.std.proofs.Common.{◌≡◌, ℕ, zero, suc, ◌+◌, ◌<◌, ◌≤◌, Bool, true, false, cond, not, ◌&&◌, ◌||◌, eqb, ltb, leb, ◌≢◌, ◌⊎◌, List, [], ◌∷◌, ◌++◌, map, length, get_or, Some, None, Option, sym, refl, ap, ◌∙◌, subst, inl, inr, ⊎_elim, arith, length-append}
+use Rattle.std.proofs.Common.{◌≡◌, ℕ, suc, ◌<◌, ◌≤◌, Bool, true, false, cond, ◌&&◌, ◌||◌, eqb, ◌≢◌, ◌⊎◌, List, [], ◌∷◌, ◌++◌, length, Some, None, Option, sym, refl, ap, ◌∙◌, inl, inr, ⊎_elim, arith, length-append}
 use lib.ListN.{get_or-append}
 use lib.Seq.{get_or-append_seam}
-use Rattle.std.proofs.lemmas.Bool.{true≢false, false≢true, both_ways, eqb-true, eqb-false, eq-eqb, ne_eqb, ltb-true, lt-ltb, cases_Bool, or_cases, or_left, or_right, or_parts, cases_lt, and_parts, and_from, and_left, cases_eq}
-use Rattle.std.proofs.lemmas.Bool.Decides.{nat_tests}
-use Rattle.ancestry.specs.Sets.{any, every, member, keep, insert, ordered, next}
+use Rattle.std.proofs.lemmas.Bool.{false≢true, both_ways, eqb-true, eq-eqb, ltb-true, or_cases, or_left, or_right, cases_lt, and_parts, and_from, and_left}
+use Rattle.ancestry.specs.Sets.{any, every, member, keep, ordered, next}
 use Rattle.ancestry.specs.Commits.{Commit, nobody, at, place_of, parents_of}
-use Rattle.ancestry.specs.Reaching.{Reaches, itself, through, reaches, reached_from, id_reaches}
+use Rattle.ancestry.specs.Reaching.{Reaches, itself, through, reaches, id_reaches}
 use Rattle.ancestry.specs.Keys.{better}
 use Rattle.ancestry.specs.Lawful.{Lawful, Held, AllHeld}
 use Rattle.ancestry.specs.Bases.{ranked, unreached, best, ids, shared, empty, bases, shared_by_all, head, octopus}
 use Rattle.ancestry.specs.Theorems.{best_ids, gather}
-use Rattle.ancestry.proofs.Sets.{same, not_so, any_intro, any_elim, any_cong, every_cong, member-ordered, keep-insert, keep_cong, ordered_cong}
-use Rattle.ancestry.proofs.Reach.{reaches_itself, reaches_through, reaches_sound, reaches_complete, reaches_trans}
-use Rattle.ancestry.proofs.Best.{Chosen, Unreached, best_intro, best_elim, best_part, best_cong, above, antisym, reached_inside, says_unreached, unreached_says, ranked_in}
-use Rattle.ancestry.proofs.Join.{place_says, place_held, id_reaches-at, bases_general, ids_elim, ids_intro, in_bases, shared_elim, shared_intro, best_inside, member-append}
+use Rattle.ancestry.proofs.Sets.{same, not_so, any_cong, every_cong, member-ordered, keep-insert, keep_cong, ordered_cong}
+use Rattle.ancestry.proofs.Reach.{reaches_through, reaches_sound, reaches_complete}
+use Rattle.ancestry.proofs.Best.{best_elim, best_part, above, reached_inside, says_unreached, unreached_says}
+use Rattle.ancestry.proofs.Join.{place_says, place_held, id_reaches-at, bases_general, ids_elim, in_bases, best_inside, member-append}
 
 pub place_old : (H : List Commit) (c : Commit) (i p : ℕ) → place_of H i ≡ Some p → place_of (H ++ c ∷ []) i ≡ Some p
 unfolding place_of next

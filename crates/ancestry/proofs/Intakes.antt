@@ -1,18 +1,15 @@
 -- What refuses a commit is the lowest refusal that applies; a commit that none meets, appended, keeps every law, and every
 -- earlier answer.
-use Rattle.std.proofs.Common.{◌≡◌, ℕ, zero, suc, ◌+◌, ◌<◌, ◌≤◌, Bool, true, false, cond, not, ◌&&◌, ◌||◌, eqb, ltb, leb, ◌⊎◌, List, [], ◌∷◌, ◌++◌, length, Some, None, Option, sym, refl, ap, ◌∙◌, subst, inl, inr, ⊎_elim, arith}
+use Rattle.std.proofs.Common.{◌≡◌, ℕ, ◌<◌, ◌≤◌, Bool, true, false, cond, ltb, leb, ◌⊎◌, List, [], ◌∷◌, ◌++◌, length, Some, None, Option, sym, refl, ap, ◌∙◌, subst, inl, inr, ⊎_elim, arith}
 use Rattle.std.proofs.lemmas.List.{append_assoc, append-nil}
 use Rattle.std.proofs.lemmas.Bool.{false≢true, both_ways, eqb-false, ltb-false, lt-ltb, le-leb, cases_lt, and_from}
 use Rattle.ancestry.specs.Sets.{any, member, absent}
-use Rattle.ancestry.specs.Commits.{Commit, at, place_of, parents_of}
+use Rattle.ancestry.specs.Commits.{Commit, at, parents_of}
 use Rattle.ancestry.specs.Reaching.{Reaches}
 use Rattle.ancestry.specs.Keys.{rank}
-use Rattle.ancestry.specs.Lawful.{Lawful, Laws, Held, AllHeld}
-use Rattle.ancestry.specs.Bases.{bases, octopus}
-use Rattle.ancestry.specs.Naming.{Asked}
-use Rattle.ancestry.specs.Describe.{describe}
+use Rattle.ancestry.specs.Lawful.{Lawful, Held}
 use Rattle.ancestry.specs.Intake.{number, exceeds, applies, first_that, refusal, Lowest}
-use Rattle.ancestry.specs.Theorems.{GrowthLaw, RefusalLaw, IntakeLaw, TakenIn, UnchangedLaw}
+use Rattle.ancestry.specs.Theorems.{GrowthLaw, RefusalLaw, IntakeLaw, UnchangedLaw}
 use Rattle.ancestry.specs.declared.refusal.Refusal.{Refusal}
 use Rattle.ancestry.specs.declared.refusal.Refusal.TheVariants.{DateOutOfRange, GenerationTooHigh, TooManyParents, IdHeld, NoSuchParent, GenerationRises, Full, TooManyOthers, WorkspaceShort}
 use Rattle.ancestry.proofs.Sets.{any_intro}

@@ -1,17 +1,16 @@
 -- The laws of merge bases.
-use Rattle.std.proofs.Common.{◌≡◌, ℕ, zero, suc, ◌+◌, ◌<◌, ◌≤◌, Bool, true, false, cond, not, ◌&&◌, ◌||◌, eqb, ltb, leb, ◌≢◌, ◌⊎◌, List, [], ◌∷◌, ◌++◌, map, length, get_or, Some, None, Option, sym, refl, ap, ◌∙◌, subst, inl, inr, ⊎_elim, arith, MatchOption}
-use Rattle.std.proofs.lemmas.Bool.{true≢false, false≢true, both_ways, eqb-true, eqb-false, eq-eqb, ne_eqb, ltb-true, lt-ltb, cases_Bool, or_cases, or_left, or_right, or_parts, cases_lt, and_parts, and_from, cases_eq}
-use Rattle.std.proofs.lemmas.Bool.Decides.{nat_tests}
-use Rattle.ancestry.specs.Sets.{any, every, member, keep, insert, ordered, next}
-use Rattle.ancestry.specs.Commits.{Commit, nobody, at, place_of}
-use Rattle.ancestry.specs.Reaching.{Reaches, itself, through, reaches, reached_from, id_reaches}
+use Rattle.std.proofs.Common.{◌≡◌, ℕ, zero, suc, ◌<◌, Bool, true, false, cond, ◌&&◌, ◌||◌, eqb, ◌≢◌, List, [], ◌∷◌, ◌++◌, length, Some, None, Option, sym, refl, ap, ◌∙◌, ⊎_elim, arith, MatchOption}
+use Rattle.std.proofs.lemmas.Bool.{false≢true, eqb-true, eq-eqb, ne_eqb, ltb-true, or_cases, or_left, or_right, and_parts, and_from, cases_eq}
+use Rattle.ancestry.specs.Sets.{any, member, keep, insert, ordered, next}
+use Rattle.ancestry.specs.Commits.{Commit, at, place_of}
+use Rattle.ancestry.specs.Reaching.{reaches, reached_from, id_reaches}
 use Rattle.ancestry.specs.Keys.{better}
 use Rattle.ancestry.specs.Lawful.{Lawful, Held}
 use Rattle.ancestry.specs.Bases.{ranked, unreached, best, ids, shared, empty, bases}
 use Rattle.ancestry.specs.Theorems.{best_ids, PlaceLaw, SwapLaw, JoinLaw}
-use Rattle.ancestry.proofs.Sets.{same, not_so, any_intro, any_elim, any_cong, member-ordered, keep-insert}
-use Rattle.ancestry.proofs.Reach.{reaches_itself, reaches_sound, reaches_complete, reaches_trans}
-use Rattle.ancestry.proofs.Best.{Chosen, best_intro, best_elim, best_part, best_cong, above, antisym, reached_inside, says_unreached, unreached_says}
+use Rattle.ancestry.proofs.Sets.{same, not_so, any_intro, member-ordered, keep-insert}
+use Rattle.ancestry.proofs.Reach.{reaches_itself}
+use Rattle.ancestry.proofs.Best.{best_elim, best_part, best_cong, above, says_unreached}
 
 -- place_of
 pub place_says : (H : List Commit) (i p : ℕ) → place_of H i ≡ Some p → (p < length H) × ((at H p).id ≡ i)

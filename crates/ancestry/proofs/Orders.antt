@@ -1,5 +1,5 @@
 -- Lists in the order of dates, and the first of a set by date.
-use Rattle.std.proofs.Common.{◌≡◌, ℕ, zero, suc, ◌-◌, ◌<◌, Bool, true, false, cond, ◌&&◌, eqb, ltb, ◌≢◌, ◌⊎◌, List, [], ◌∷◌, length, ℤ, Some, None, sym, refl, ◌∙◌, inl, inr, ⊎_elim, arith}
+use Rattle.std.proofs.Common.{◌≡◌, ℕ, zero, suc, ◌<◌, Bool, true, false, cond, ◌&&◌, eqb, ltb, ◌⊎◌, List, [], ◌∷◌, length, ℤ, Some, None, sym, refl, ◌∙◌, inl, inr, ⊎_elim, arith}
 use lib.Signed.{lt_z}
 use Rattle.std.proofs.lemmas.Bool.{false≢true, both_ways, eqb-true, lt-ltb, or_cases, or_left, and_from}
 use Rattle.std.proofs.lemmas.Bool.Decides.{nat_tests}

@@ -1,12 +1,12 @@
 -- The test `reaches` says what the relation `Reaches` says, of any history.
-use Rattle.std.proofs.Common.{◌≡◌, ℕ, zero, suc, ◌+◌, ◌<◌, ◌≤◌, Bool, true, false, cond, not, ◌&&◌, ◌||◌, eqb, ltb, leb, ◌⊎◌, List, [], ◌∷◌, length, get_or, sym, refl, ap, ◌∙◌, subst, inl, inr, ⊎_elim, add-zero, add-suc, arith}
+use Rattle.std.proofs.Common.{◌≡◌, ℕ, zero, suc, ◌<◌, ◌≤◌, Bool, true, false, ◌||◌, eqb, ◌⊎◌, List, length, sym, refl, ap, ◌∙◌, inl, inr, ⊎_elim, arith}
 use lib.ListN.{get_or-eq_default}
-use Rattle.std.proofs.lemmas.Bool.{true≢false, false≢true, both_ways, eqb-true, eqb-false, eq-eqb, ne_eqb, ltb-true, ltb-false, lt-ltb, le-ltb, cases_Bool, or_cases, or_left, or_right, cases_lt}
-use Rattle.ancestry.specs.Sets.{any, every, member, size}
+use Rattle.std.proofs.lemmas.Bool.{false≢true, both_ways, eqb-true, eq-eqb, or_cases, or_left, or_right, cases_lt}
+use Rattle.ancestry.specs.Sets.{any, member, size}
 use Rattle.ancestry.specs.Commits.{Commit, nobody, at}
 use Rattle.ancestry.specs.Reaching.{Reaches, itself, through, within, reaches}
 use Rattle.ancestry.specs.Theorems.{ReachingLaw}
-use Rattle.ancestry.proofs.Sets.{same, not_so, any_intro, any_elim, any_cong, size_most, size_less}
+use Rattle.ancestry.proofs.Sets.{same, any_intro, any_elim, any_cong, size_most, size_less}
 
 -- beyond the list there are no parents
 pub past : (H : List Commit) (p : ℕ) → length H ≤ p → at H p ≡ nobody

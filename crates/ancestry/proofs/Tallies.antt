@@ -1,10 +1,10 @@
 -- The counts of candidates, and lists of numbers.
-use Rattle.std.proofs.Common.{◌≡◌, ℕ, zero, suc, ◌+◌, ◌-◌, ◌<◌, ◌≤◌, min, Bool, true, false, cond, not, ◌&&◌, ◌||◌, eqb, ◌≢◌, ◌⊎◌, List, [], ◌∷◌, ◌++◌, map, length, get_or, Some, None, Option, sym, refl, ap, ◌∙◌, subst, ⊎_elim, arith, length-append}
+use Rattle.std.proofs.Common.{◌≡◌, ℕ, zero, suc, ◌+◌, ◌<◌, ◌≤◌, min, Bool, true, false, cond, not, ◌&&◌, ◌||◌, eqb, ◌⊎◌, List, [], ◌∷◌, ◌++◌, map, length, get_or, Some, None, Option, sym, refl, ap, ◌∙◌, subst, ⊎_elim, arith, length-append}
 use lib.ListN.{length-map, get_or-append}
 use lib.Seq.{get_or-append_seam}
 use Rattle.std.proofs.lemmas.Bool.{false≢true, both_ways, eqb-true, eqb-false, eq-eqb, or_cases, or_left, or_right, cases_lt, and_parts, not-true}
 use Rattle.ancestry.specs.Sets.{any, member, size, index_of, absent}
-use Rattle.ancestry.specs.Commits.{Commit, at}
+use Rattle.ancestry.specs.Commits.{Commit}
 use Rattle.ancestry.specs.Reaching.{reaches}
 use Rattle.ancestry.specs.Bases.{empty}
 use Rattle.ancestry.specs.Walk.{Walk, gains, least, has_all, has_least, ended}

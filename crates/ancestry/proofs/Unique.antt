@@ -1,21 +1,16 @@
 -- `best` is the one list that it should be.
-use Rattle.std.proofs.Common.{◌≡◌, ℕ, zero, suc, ◌+◌, ◌<◌, ◌≤◌, Bool, true, false, cond, not, ◌&&◌, ◌||◌, eqb, ltb, leb, ◌⊎◌, List, [], ◌∷◌, ◌++◌, length, get_or, ℤ, Some, None, Option, sym, refl, ap, ◌∙◌, subst, inl, inr, ⊎_elim, arith}
-use lib.Signed.{lt_z}
-use Rattle.std.proofs.lemmas.Bool.{true≢false, false≢true, both_ways, eqb-true, eqb-false, eq-eqb, ne_eqb, ltb-true, lt-ltb, cases_Bool, or_cases, or_left, or_right, cases_lt, and_parts, and_from, cases_eq}
+use Rattle.std.proofs.Common.{◌≡◌, ℕ, zero, suc, ◌<◌, Bool, true, false, cond, ◌&&◌, eqb, List, [], ◌∷◌, length, sym, refl, ◌∙◌, subst, ⊎_elim, arith}
+use Rattle.std.proofs.lemmas.Bool.{false≢true, both_ways, eqb-true, eq-eqb, ltb-true, or_cases, or_left, or_right, and_parts}
 use Rattle.std.proofs.lemmas.Bool.Decides.{nat_tests}
 use borrow.Author.Differences.{ints}
-use Rattle.ancestry.specs.Sets.{any, every, member, keep, insert, ordered}
+use Rattle.ancestry.specs.Sets.{any, member, keep, insert, ordered}
 use Rattle.ancestry.specs.Commits.{Commit, at}
-use Rattle.ancestry.specs.Reaching.{Reaches, reaches}
-use Rattle.ancestry.specs.Keys.{rank, eqZ, newer, better}
-use Rattle.ancestry.specs.Lawful.{Lawful, Held, AllHeld}
-use Rattle.ancestry.specs.Bases.{ranked, unreached, best, bases, octopus}
-use Rattle.ancestry.specs.Naming.{Asked}
-use Rattle.ancestry.specs.Describe.{describe}
+use Rattle.ancestry.specs.Keys.{eqZ, newer, better}
+use Rattle.ancestry.specs.Bases.{ranked, unreached, best}
 use Rattle.ancestry.specs.Theorems.{Strict, IsBest, BestLaw}
-use Rattle.ancestry.proofs.Sets.{same, not_so, member-keep, member-insert, member-ordered}
+use Rattle.ancestry.proofs.Sets.{member-keep, member-insert, member-ordered}
 use Rattle.ancestry.proofs.Reach.{reaches_sound, reaches_complete}
-use Rattle.ancestry.proofs.Best.{Chosen, best_intro, best_elim}
+use Rattle.ancestry.proofs.Best.{best_intro, best_elim}
 use Rattle.ancestry.proofs.Tallies.{member-cons}
 
 pub better_irrefl : (a : Commit) → better a a ≡ false

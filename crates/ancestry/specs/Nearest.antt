@@ -1,5 +1,5 @@
 -- What the nearest name is, where dates fall along the parents followed.
-use Rattle.std.specs.Prelude.{◌≡◌, ℕ, ◌≤◌, min, Bool, true, not, ◌&&◌, List, map, length, Some, None, Option, int_lt}
+use Rattle.std.specs.Prelude.{◌≡◌, ℕ, ◌≤◌, min, true, not, ◌&&◌, List, map, length, Some, None, Option, int_lt}
 use Rattle.ancestry.specs.Sets.{member, size, absent}
 use Rattle.ancestry.specs.Commits.{Commit, at, parents_of}
 use Rattle.ancestry.specs.Reaching.{reaches}

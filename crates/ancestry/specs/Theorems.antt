@@ -1,7 +1,7 @@
 -- What holds of the definitions, each statement to be read without its proof.
-use Rattle.std.specs.Prelude.{◌≡◌, ℕ, ◌<◌, ◌≤◌, Bool, true, false, ◌≢◌, List, [], ◌∷◌, ◌++◌, length, Some, None, MatchOption}
+use Rattle.std.specs.Prelude.{◌≡◌, ℕ, ◌<◌, Bool, true, ◌≢◌, List, [], ◌∷◌, ◌++◌, length, Some, None, MatchOption}
 use Rattle.ancestry.specs.Sets.{member}
-use Rattle.ancestry.specs.Commits.{Commit, at, parents_of, place_of}
+use Rattle.ancestry.specs.Commits.{Commit, at, place_of}
 use Rattle.ancestry.specs.Reaching.{Reaches, reaches}
 use Rattle.ancestry.specs.Keys.{better}
 use Rattle.ancestry.specs.Lawful.{Lawful, Laws, Held, AllHeld}

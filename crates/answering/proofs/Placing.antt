@@ -1,8 +1,7 @@
 -- The places of parents, one after another.
-use Rattle.std.proofs.Common.{◌≡◌, ℕ, ◌+◌, ◌<◌, List, [], ◌∷◌, ◌++◌, map, length, get_or, take, sym, refl, ap, ◌∙◌}
+use Rattle.std.proofs.Common.{◌≡◌, ℕ, ◌+◌, ◌<◌, List, [], ◌∷◌, ◌++◌, map, length, get_or, take, sym, ap, ◌∙◌}
 use Rattle.std.proofs.lemmas.List.{take_more, map-append}
 use Rattle.ancestry.specs.Commits.{Commit}
-use Rattle.history.specs.Meaning.{Same}
 use Rattle.answering.specs.Answers.{place_in}
 use Rattle.orders.specs.Fields.{via}
 use Rattle.orders.specs.declared.parent.Parent.{Parent}

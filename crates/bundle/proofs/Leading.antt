@@ -1,5 +1,5 @@
 -- A bundle, one line after another.
-use Rattle.std.proofs.Common.{◌≡◌, ℕ, true, false, ◌⊎◌, List, [], ◌∷◌, sym, refl, ap, ◌∙◌, subst, inl, inr}
+use Rattle.std.proofs.Common.{◌≡◌, ℕ, true, false, List, [], ◌∷◌, sym, refl, subst, inl, inr}
 use Rattle.ancestry.specs.Commits.{Commit}
 use Rattle.lines.specs.Bytes.{trimmed, passed, fields_of}
 use Rattle.orders.specs.Lines.{line}

@@ -1,5 +1,5 @@
 -- Calls that grow nothing, one after another.
-use Rattle.std.proofs.Common.{◌≡◌, ℕ, List, refl, ◌∙◌}
+use Rattle.std.proofs.Common.{ℕ, List, refl, ◌∙◌}
 use Rattle.ancestry.specs.Commits.{Commit}
 use Rattle.history.specs.Meaning.{Same}
 

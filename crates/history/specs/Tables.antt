@@ -1,5 +1,5 @@
 -- What a table of rows means.
-use Rattle.std.specs.Prelude.{◌≡◌, ℕ, ◌≤◌, List, [], ◌∷◌, map, length, take, pos, None}
+use Rattle.std.specs.Prelude.{◌≡◌, ℕ, ◌≤◌, List, [], map, length, take, pos, None}
 use Rattle.std.specs.List.{AllByRecursion as All}
 use Rattle.ancestry.specs.Commits.{Commit}
 use Rattle.ancestry.specs.Lawful.{Laws}

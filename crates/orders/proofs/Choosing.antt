@@ -6,7 +6,6 @@ use Rattle.std.proofs.lemmas.Bool.{cases_Bool}
 use Rattle.orders.specs.Spelling.{decimal_of}
 use Rattle.std.specs.Str.{bytes_eq}
 use Rattle.orders.specs.Words.{word_of, later_word_of, limit_of, option_of}
-use Rattle.orders.specs.declared.words.Word.{Word}
 use Rattle.orders.specs.declared.words.Word.TheVariants.{Commit, Name, Count, Capacity, Find, Read, Parent, MergeBase, Octopus, Describe}
 
 cond_yes : {X : Type 0} (b : Bool) (x y : X) → b ≡ true → cond b x y ≡ x

@@ -1,13 +1,12 @@
 -- Parents, and fields read one after another.
-use Rattle.std.proofs.Common.{◌≡◌, ℕ, zero, suc, ◌+◌, ◌-◌, ◌<◌, ◌≤◌, true, false, List, [], ◌∷◌, ◌++◌, length, get_or, drop, Some, None, Ok, Err, Option, Result, sym, refl, ap, ◌∙◌, append_assoc, arith}
-use Rattle.std.specs.List.{slice_get}
+use Rattle.std.proofs.Common.{◌≡◌, ℕ, zero, suc, ◌+◌, ◌-◌, ◌<◌, ◌≤◌, true, false, List, [], ◌∷◌, ◌++◌, length, get_or, drop, Some, Ok, Err, Option, Result, sym, refl, ap, ◌∙◌, append_assoc, arith}
 use Rattle.std.specs.Option.{option_map, ok_or}
 use Rattle.std.proofs.lemmas.List.{drop_more, drop_all}
 use Rattle.std.proofs.lemmas.Option.{slice_get-get_or}
 use Rattle.ancestry.specs.Numbers.{from_hex}
 use Rattle.lines.specs.Bytes.{starts, field_of}
 use Rattle.orders.specs.Spelling.{decimal_of}
-use Rattle.orders.specs.Fields.{by, ok_mapped, fault, read_at, each_on, checked, Via, place, named, parent_of}
+use Rattle.orders.specs.Fields.{by, ok_mapped, fault, read_at, each_on, checked, place, named, parent_of}
 use Rattle.orders.specs.declared.expected.Expected.{Expected}
 use Rattle.orders.specs.declared.expected.Malformed.{Malformed}
 

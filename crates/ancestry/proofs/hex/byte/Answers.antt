@@ -1,4 +1,4 @@
-use Rattle.std.proofs.Common.{◌≡◌, ◌+◌, ◌*◌, Some, None, sym, refl, ap, ◌∙◌, arith}
+use Rattle.std.proofs.Common.{sym, ◌∙◌, arith}
 use Rattle.ancestry.proofs.Readings.{reading_two}
 use Rattle.ancestry.proofs.Letters.{joined_none, joined_half, joined_some}
 use Rattle.ancestry.proofs.hex.byte.Goals as goal

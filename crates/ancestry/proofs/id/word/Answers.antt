@@ -1,4 +1,4 @@
-use Rattle.std.proofs.Common.{◌≡◌, arith}
+use Rattle.std.proofs.Common.{arith}
 use Rattle.ancestry.specs.Numbers.{spelled_on}
 use Rattle.ancestry.proofs.Spelling.{part_four}
 use Rattle.ancestry.proofs.id.word.Goals as goal

@@ -1,4 +1,4 @@
-use Rattle.std.proofs.Common.{◌≡◌, map, get_or, vec_items, sym, refl, ap, ◌∙◌}
+use Rattle.std.proofs.Common.{map, get_or, vec_items, ap, ◌∙◌}
 use Rattle.std.proofs.lemmas.List.{take_all}
 use Rattle.history.proofs.Sames.{same_self, same_then}
 use Rattle.answering.specs.Answers.{place_in}

@@ -1,4 +1,4 @@
-use Rattle.std.proofs.Common.{◌≡◌, [], length, sym, ap, ◌∙◌, rules}
+use Rattle.std.proofs.Common.{◌≡◌, [], length, ap, rules}
 use Rattle.std.proofs.lemmas.List.{nil_from_length}
 use Rattle.lines.specs.Bytes.{lines_of}
 use Rattle.bundle.specs.Runs.{no_lines}

@@ -1,4 +1,4 @@
-use Rattle.std.proofs.Common.{◌≡◌, ℕ, ltb, sym, ap, ◌∙◌}
+use Rattle.std.proofs.Common.{ltb, ap, ◌∙◌}
 use Rattle.history.proofs.Verdicts.{exceeds_none, exceeds_some}
 use Rattle.history.proofs.verdict.exceeded.Goals as goal
 

@@ -1,4 +1,4 @@
-use Rattle.std.proofs.Common.{◌≡◌, true, false, pos, negsuc, sym, refl, ◌∙◌, w64, SFits}
+use Rattle.std.proofs.Common.{◌≡◌, true, false, negsuc, refl, w64, SFits}
 use lib.Signed.{le_z}
 use Rattle.std.proofs.lemmas.Int.{to_z-of_z}
 use Rattle.ancestry.specs.Intake.{in_range}

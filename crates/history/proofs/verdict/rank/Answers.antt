@@ -1,4 +1,4 @@
-use Rattle.std.proofs.Common.{sym, ap, rules}
+use Rattle.std.proofs.Common.{sym, ap}
 use Rattle.ancestry.specs.Keys.{rank}
 use Rattle.history.proofs.verdict.rank.Goals as goal
 

@@ -1,10 +1,10 @@
-use Rattle.std.proofs.Common.{◌≡◌, ℕ, Bool, true, false, not, eqb, ltb, leb, List, length, is_some, sym, refl, ap, ◌∙◌, w64, SFits}
+use Rattle.std.proofs.Common.{◌≡◌, ℕ, true, false, leb, List, length, is_some, sym, refl, ap, ◌∙◌, w64, SFits}
 use Rattle.std.proofs.lemmas.Int.{to_z-of_z}
 use Rattle.std.proofs.lemmas.Bool.{lt-ltb, le-ltb, eq-eqb, ne_eqb}
 use Rattle.ancestry.specs.Commits.{Commit, place_of}
 use Rattle.ancestry.specs.Intake.{in_range, exceeds}
 use Rattle.ancestry.specs.Numbers.{num}
-use Rattle.ancestry.specs.Sets.{any, absent}
+use Rattle.ancestry.specs.Sets.{any}
 use Rattle.history.proofs.Sames.{same_self, same_then}
 use Rattle.history.proofs.Verdicts.{some_present, by_tests}
 use Rattle.history.proofs.verdict.refuses.Goals as goal

@@ -1,6 +1,6 @@
-use Rattle.std.proofs.Common.{◌≡◌, not, sym, ap}
+use Rattle.std.proofs.Common.{not, sym, ap}
 use Rattle.lines.specs.Bytes.{in_field}
-use Rattle.lines.proofs.Counting.{Count, counted_more, counted_stop, counted_all}
+use Rattle.lines.proofs.Counting.{counted_more, counted_stop, counted_all}
 use Rattle.lines.proofs.field.field_length.Goals as goal
 
 pub loop-length-preserved : goal.loop-length-preserved

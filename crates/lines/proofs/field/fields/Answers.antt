@@ -1,4 +1,4 @@
-use Rattle.std.proofs.Common.{◌≡◌, ◌++◌, vec_items, sym, ap, ◌∙◌}
+use Rattle.std.proofs.Common.{◌++◌, vec_items, sym, ap, ◌∙◌}
 use Rattle.lines.specs.Bytes.{fields_of, texts}
 use Rattle.lines.proofs.Parting.{texts-push}
 use Rattle.lines.proofs.field.fields.Goals as goal

@@ -1,4 +1,4 @@
-use Rattle.std.proofs.Common.{◌≡◌, sym, ◌∙◌}
+use Rattle.std.proofs.Common.{sym, ◌∙◌}
 use Rattle.std.proofs.lemmas.List.{take_rest}
 use Rattle.lines.proofs.Parting.{from, parted_none, parted_at, shorter_at}
 use Rattle.lines.proofs.field.next_field.Goals as goal

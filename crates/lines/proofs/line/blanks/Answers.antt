@@ -1,6 +1,6 @@
-use Rattle.std.proofs.Common.{◌≡◌, not, sym, ap}
+use Rattle.std.proofs.Common.{sym}
 use Rattle.lines.specs.Bytes.{blank}
-use Rattle.lines.proofs.Counting.{Count, counted_more, counted_stop, counted_all}
+use Rattle.lines.proofs.Counting.{counted_more, counted_stop, counted_all}
 use Rattle.lines.proofs.line.blanks.Goals as goal
 
 pub loop-count-preserved : goal.loop-count-preserved

@@ -1,7 +1,7 @@
-use Rattle.std.proofs.Common.{◌≡◌, not, sym, ap, arith}
+use Rattle.std.proofs.Common.{arith}
 use Rattle.std.proofs.lemmas.Bool.Decides.{nat_tests}
 use Rattle.lines.specs.Bytes.{in_line}
-use Rattle.lines.proofs.Counting.{Count, counted_more, counted_stop, counted_all}
+use Rattle.lines.proofs.Counting.{counted_more, counted_stop, counted_all}
 use Rattle.lines.proofs.line.line_length.Goals as goal
 
 pub loop-length-preserved : goal.loop-length-preserved

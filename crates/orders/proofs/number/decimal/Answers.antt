@@ -1,4 +1,4 @@
-use Rattle.std.proofs.Common.{◌≡◌, ◌+◌, ◌-◌, ◌*◌, ◌<◌, min, ◌≢◌, length, get_or, drop, sym, ap, ◌∙◌, arith, rules}
+use Rattle.std.proofs.Common.{◌≡◌, ◌+◌, ◌-◌, ◌*◌, min, get_or, drop, sym, ap, ◌∙◌, arith, rules}
 use Rattle.std.proofs.lemmas.List.{nil_from_length, at_drop_more, at_drop_all}
 use Rattle.orders.specs.Spelling.{decimal_of}
 use Rattle.orders.proofs.Digits.{largest, reading, decimal_at, reading_more, reading_bad, reading_end}

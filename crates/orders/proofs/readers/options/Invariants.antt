@@ -1,5 +1,4 @@
 use Rattle.std.proofs.Common.{◌≡◌, suc, ◌-◌, ◌<◌, length, drop}
-use Rattle.ancestry.specs.Numbers.{from_hex}
 use Rattle.lines.specs.Bytes.{texts}
 use Rattle.orders.specs.Fields.{each_on, checked, chosen}
 use Rattle.orders.specs.Words.{option_of}

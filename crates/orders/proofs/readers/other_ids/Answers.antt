@@ -1,10 +1,9 @@
-use Rattle.std.proofs.Common.{◌≡◌, ◌<◌, ◌≤◌, length, Err, sym, ap, ◌∙◌, arith}
+use Rattle.std.proofs.Common.{◌<◌, ◌≤◌, length, Err, sym, ap, ◌∙◌, arith}
 use Rattle.std.proofs.lemmas.List.{length-map}
 use Rattle.std.proofs.lemmas.Result.{err_from_is_err_and}
 use Rattle.ancestry.specs.Numbers.{num, from_hex}
 use Rattle.lines.specs.Bytes.{texts}
-use Rattle.orders.specs.Fields.{checked, chosen}
-use Rattle.orders.specs.Words.{option_of}
+use Rattle.orders.specs.Fields.{checked}
 use Rattle.orders.specs.declared.expected.Expected.TheVariants.{AnId}
 use Rattle.orders.proofs.Spelled.{each_next, each_all, each_fault, checked_next}
 use Rattle.orders.proofs.readers.other_ids.Goals as goal

@@ -1,8 +1,7 @@
 use Rattle.std.proofs.Common.{◌≡◌, suc, ◌-◌, ◌<◌, length, drop}
 use Rattle.ancestry.specs.Numbers.{from_hex}
 use Rattle.lines.specs.Bytes.{texts}
-use Rattle.orders.specs.Fields.{each_on, checked, chosen}
-use Rattle.orders.specs.Words.{option_of}
+use Rattle.orders.specs.Fields.{each_on, checked}
 use Rattle.orders.specs.declared.expected.Expected.TheVariants.{AnId}
 use Rattle.orders.proofs.readers.other_ids.Given as goal
 

@@ -1,4 +1,4 @@
-use Rattle.std.proofs.Common.{◌≡◌, sym, ◌∙◌}
+use Rattle.std.proofs.Common.{sym, ◌∙◌}
 use Rattle.orders.proofs.Choosing.{option_1, option_2, option_3}
 use Rattle.orders.proofs.words.is_option.Goals as goal
 

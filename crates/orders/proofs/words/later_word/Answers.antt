@@ -1,4 +1,4 @@
-use Rattle.std.proofs.Common.{◌≡◌, sym, ◌∙◌}
+use Rattle.std.proofs.Common.{sym}
 use Rattle.orders.proofs.Choosing.{later_1, later_2, later_3, later_4}
 use Rattle.orders.proofs.words.later_word.Goals as goal
 

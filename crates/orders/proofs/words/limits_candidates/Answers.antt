@@ -1,4 +1,4 @@
-use Rattle.std.proofs.Common.{◌≡◌, sym, ap, ◌∙◌}
+use Rattle.std.proofs.Common.{sym, ap, ◌∙◌}
 use Rattle.std.proofs.lemmas.List.{take_rest}
 use Rattle.orders.specs.Spelling.{decimal_of}
 use Rattle.orders.proofs.Choosing.{limit_short, limit_yes, limit_no}

@@ -1,4 +1,4 @@
-use Rattle.std.proofs.Common.{◌≡◌, sym, ◌∙◌}
+use Rattle.std.proofs.Common.{sym, ◌∙◌}
 use Rattle.orders.proofs.Choosing.{word_1, word_2, word_3, word_4, word_5, word_6, word_7, word_8}
 use Rattle.orders.proofs.words.read_word.Goals as goal
 

@@ -1,7 +1,7 @@
-use Rattle.std.proofs.Common.{◌≡◌, length, get_or, sym, ap, ◌∙◌, arith, w64, SFits, rules}
+use Rattle.std.proofs.Common.{get_or, sym, ap, arith, w64, SFits, rules}
 use Rattle.std.proofs.lemmas.Int.{to_z-of_z}
 use Rattle.ancestry.specs.Commits.{Commit}
-use Rattle.history.specs.Tables.{listed, blank}
+use Rattle.history.specs.Tables.{blank}
 use Rattle.history.proofs.Listed.{listed_length, listed_at, parents_count}
 use Rattle.history.proofs.table.Table.read.Goals as goal
 

@@ -1,4 +1,4 @@
-use Rattle.std.proofs.Common.{◌≡◌, sym, ap}
+use Rattle.std.proofs.Common.{sym, ap}
 use Rattle.orders.specs.Fields.{words_for}
 use Rattle.orders.proofs.expected.Expected.words.Goals as goal
 
