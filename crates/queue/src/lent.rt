@@ -17,7 +17,7 @@ pub struct Queue<'a, E> {
 impl<'a, E: Entry> Queue<'a, E> {
     /// An empty queue that has room for as many entries as the slice has slots.
     pub fn new(entries: &'a mut [E]) -> Queue<'a, E>
-        ensures whole { Whole better result }
+        ensures whole { Whole E.better result }
         ensures empty { waiting result ≡ [] }
         ensures room { room result ≡ length entries.old }
     {
@@ -26,8 +26,8 @@ impl<'a, E: Entry> Queue<'a, E> {
 
     /// Puts the entry among those that wait; refused where the slice is full.
     pub fn insert(&mut self, e: E) -> Result<(), Refusal>
-        requires { Whole better self.old }
-        ensures whole { Whole better self.new }
+        requires { Whole E.better self.old }
+        ensures whole { Whole E.better self.new }
         ensures room { room self.new ≡ room self.old }
         ensures accepted { is_ok result ≡ nat_lt (length (waiting self.old)) (room self.old) }
         ensures answer { Inserted e self.old result self.new }
@@ -43,10 +43,10 @@ impl<'a, E: Entry> Queue<'a, E> {
 
     /// The best of the entries that wait, which waits no longer; none where nothing waits.
     pub fn take(&mut self) -> Option<E>
-        requires { Whole better self.old }
-        ensures whole { Whole better self.new }
+        requires { Whole E.better self.old }
+        ensures whole { Whole E.better self.new }
         ensures room { room self.new ≡ room self.old }
-        ensures answer { Taken better self.old result self.new }
+        ensures answer { Taken E.better self.old result self.new }
     {
         if self.len == 0 {
             return None;
