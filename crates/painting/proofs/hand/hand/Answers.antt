@@ -23,14 +23,14 @@ add-requires g c = record {
   free = free-room _ _ _ c.args.place c.requires.kept (omega (arith, length-flags c.args.marks.now, c.requires.size, c.requires.below)) (ap (λ (m : Mark). m.waiting) (sym c.get-old.ensures) ∙ not-true _ c.if-not-old.true);
 }
 
-pub overflow-add-result : goal.overflow-add-result
-overflow-add-result g c =
+pub overflow_add-result : goal.overflow_add-result
+overflow_add-result g c =
     let h : c.lively.result ≤ 1 = omega (arith, c.lively.ensures, lively_most c.joined-new.result) in
     let w = g.H.Reader.lawful c.args.history.now c.requires.whole in
     omega (arith, live_most _ _ _ c.requires.kept, length-flags c.args.marks.now, c.requires.size, w.fits, w.limit)
 
-pub overflow-sub-result : goal.overflow-sub-result
-overflow-sub-result g c =
+pub overflow_sub-result : goal.overflow_sub-result
+overflow_sub-result g c =
     omega (arith, c.lively-2.ensures, ap lively c.get-old.ensures, total_has lively (flags c.args.marks.now) c.args.place (omega (arith, length-flags c.args.marks.now, c.requires.size, c.requires.below)), c.requires.kept.alive)
 
 pub returns : goal.returns
