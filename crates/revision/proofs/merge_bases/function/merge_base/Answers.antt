@@ -9,23 +9,23 @@ use Rattle.ancestry.specs.Numbers.{num}
 use Rattle.history.proofs.Sames.{same_then}
 use Rattle.revision.proofs.Members.{bases_plain, bases_walked, length-nums, plain_slots, enough, answered}
 use Rattle.revision.proofs.merge_bases.function.merge_base.Goals as goal
-use Rattle.revision.proofs.merge_bases.function.merge_base.Goals.{In-default, then-is_empty-via-then-is_empty, then-is_empty-via-else-is_empty+then-contains}
+use Rattle.revision.proofs.merge_bases.function.merge_base.Goals.{In_default, then-is_empty-via-then-is_empty, then-is_empty-via-else-is_empty+then-contains}
 
 -- nothing refuses
-free : (g : _) (c : goal.In-default g) → denied (space_of (length c.args.space.marks.now) (length c.args.space.queue.now) (length c.args.space.stack.now) (length c.args.answers.now)) (length (g.H.Reader.commits c.args.history.now)) (length c.args.others.now) ≡ None
+free : (g : _) (c : goal.In_default g) → denied (space_of (length c.args.space.marks.now) (length c.args.space.queue.now) (length c.args.space.stack.now) (length c.args.answers.now)) (length (g.H.Reader.commits c.args.history.now)) (length c.args.others.now) ≡ None
 free g c =
     let sp = space_of (length c.args.space.marks.now) (length c.args.space.queue.now) (length c.args.space.stack.now) (length c.args.answers.now) in
     ap (λ (n : ℕ). denied sp n (length c.args.others.now)) (sym c.count-count.ensures.answer) ∙ sym c.denied.ensures ∙ c.in_default.is
 
 pub bounds-answers-0 : goal.bounds-answers-0
-bounds-answers-0 g c = let h = enough _ _ _ (free g (goal.at.bounds-answers-0 g c).In-default) in omega (arith, h.answers)
+bounds-answers-0 g c = let h = enough _ _ _ (free g (goal.at.bounds-answers-0 g c).In_default) in omega (arith, h.answers)
 
 pub returns-then-is_empty : goal.returns-then-is_empty
 returns-then-is_empty g c =
     let H = g.H.Reader.commits c.args.history.now in
     let f = num c.args.first in
     let zs = c.args.others.now in
-    let none = free g (goal.at.returns-then-is_empty g c).In-default in
+    let none = free g (goal.at.returns-then-is_empty g c).In_default in
     let h = enough _ _ _ none in
     let why : (length zs ≡ 0) ⊎ (member f (nums zs) ≡ true) = elim c.then-is_empty.branch [
       | then-is_empty-via-then-is_empty w ↦ inl (eqb-true (length zs) 0 (sym c.is_empty.ensures ∙ w.if-is_empty.true))
@@ -42,14 +42,14 @@ returns-then-is_empty g c =
     }
 
 pub split_at_mut-results-requires : goal.split_at_mut-results-requires
-split_at_mut-results-requires g c = let h = enough _ _ _ (free g (goal.at.split_at_mut-results-requires g c).In-default) in omega (arith, h.stack, c.count-count.ensures.answer)
+split_at_mut-results-requires g c = let h = enough _ _ _ (free g (goal.at.split_at_mut-results-requires g c).In_default) in omega (arith, h.stack, c.count-count.ensures.answer)
 
-pub slice-bounds-find_bases-end : goal.slice-bounds-find_bases-end
-slice-bounds-find_bases-end g c = let h = enough _ _ _ (free g (goal.at.slice-bounds-find_bases-end g c).In-default) in omega (arith, h.marks, c.count-count.ensures.answer)
+pub slice_bounds-find_bases-end : goal.slice_bounds-find_bases-end
+slice_bounds-find_bases-end g c = let h = enough _ _ _ (free g (goal.at.slice_bounds-find_bases-end g c).In_default) in omega (arith, h.marks, c.count-count.ensures.answer)
 
 pub find_bases-found-requires : goal.find_bases-found-requires
 find_bases-found-requires g c =
-    let h = enough _ _ _ (free g (goal.at.find_bases-found-requires g c).In-default) in
+    let h = enough _ _ _ (free g (goal.at.find_bases-found-requires g c).In_default) in
     let s = c.count-count.ensures.same in
     let n = ap length s.list in
     let e = c.count-count.ensures.answer in
@@ -69,7 +69,7 @@ returns g c =
     let f = num c.args.first in
     let zs = c.args.others.now in
     let s = c.count-count.ensures.same in
-    let none = free g (goal.at.returns g c).In-default in
+    let none = free g (goal.at.returns g c).In_default in
     let h = enough _ _ _ none in
     let r = c.find_bases-found in
     let after = r.new.answers in
