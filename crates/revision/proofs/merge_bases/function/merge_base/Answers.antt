@@ -58,7 +58,7 @@ find_bases-found-requires g c =
       whole = s.still;
       marks = length-take-le _ c.args.space.marks.now (omega (arith, h.marks, e)) ∙ (omega (arith, n, e));
       queue = omega (arith, n, h.queue);
-      results = omega (arith, n, e, p.front-len);
+      results = omega (arith, n, e, p.front_len);
       walk = omega (arith, n, e, p.back_len, h.stack);
       answers = omega (arith, n, h.answers);
     }

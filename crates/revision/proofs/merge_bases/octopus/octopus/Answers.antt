@@ -47,7 +47,7 @@ find_common-common-requires g c =
       some = every_some (num c.args.first) c.args.others.now (sym c.all_same.ensures ∙ c.if-all_same.false);
       marks = length-take-le _ c.args.space.marks.now (omega (arith, h.marks, e)) ∙ (omega (arith, n, e));
       queue = omega (arith, n, h.queue);
-      results = omega (arith, n, e, p.front-len);
+      results = omega (arith, n, e, p.front_len);
       walk = omega (arith, n, e, p.back_len, h.stack);
     }
 
