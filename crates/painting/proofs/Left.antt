@@ -1,11 +1,10 @@
 -- What is left of the results: those that no other of the set reaches.
-use Rattle.std.proofs.Common.{◌≡◌, ℕ, zero, suc, ◌+◌, ◌<◌, ◌≤◌, Bool, true, false, cond, not, ◌&&◌, ◌||◌, eqb, ◌⊎◌, List, [], ◌∷◌, ◌++◌, length, get_or, take, drop, set, Some, sym, refl, ap, ◌∙◌, subst, inl, inr, ⊎_elim, add-one, arith, length-set}
+use Rattle.std.proofs.Common.{◌≡◌, ℕ, ◌+◌, ◌<◌, ◌≤◌, Bool, true, false, cond, not, eqb, ◌⊎◌, List, [], ◌∷◌, ◌++◌, length, get_or, take, Some, sym, refl, ap, ◌∙◌, subst, ⊎_elim, arith}
 use Rattle.std.proofs.lemmas.List.{take_more, length-take-le, get_or-take}
 use Rattle.std.proofs.lemmas.Option.{slice_get-get_or}
-use Rattle.std.proofs.lemmas.Bool.{false≢true, both_ways, cases_eq, cases_Bool, and_parts, and_from, eqb-true, not-true, not_from_false}
+use Rattle.std.proofs.lemmas.Bool.{both_ways, cases_eq, cases_Bool, and_parts, and_from, eqb-true, not-true}
 use Rattle.ancestry.specs.Sets.{member, keep}
-use Rattle.ancestry.specs.Commits.{Commit, at, parents_of}
-use Rattle.ancestry.specs.Keys.{rank}
+use Rattle.ancestry.specs.Commits.{Commit}
 use Rattle.ancestry.specs.Lawful.{Lawful}
 use Rattle.ancestry.specs.Reaching.{Reaches, itself, through}
 use Rattle.ancestry.specs.Theorems.{Unreached}
@@ -13,11 +12,11 @@ use Rattle.ancestry.proofs.Best.{antisym, above}
 use Rattle.ancestry.proofs.Reach.{Reaches-trans, reaches_sound}
 use Rattle.ancestry.proofs.Sets.{member-keep}
 use Rattle.ancestry.proofs.Tallies.{member-cons}
-use Rattle.ancestry.proofs.Unique.{member_here, member-nil, best_law}
+use Rattle.ancestry.proofs.Unique.{member-nil, best_law}
 use Rattle.painting.specs.Entries.{times}
 use Rattle.painting.specs.Marks.{mark, left, appended}
 use Rattle.painting.specs.Painted.{Painted}
-use Rattle.painting.specs.Walks.{walk_of, level, Done, Beneath, Fresh, Tracked, Bests}
+use Rattle.painting.specs.Walks.{walk_of, level, Done, Fresh, Tracked, Bests}
 use Rattle.painting.specs.declared.marks.Mark.{Mark}
 use Rattle.painting.proofs.Notes.{times-cons}
 use Rattle.painting.proofs.Parents.{nth_member}

@@ -1,12 +1,11 @@
 -- What the code of the walk does, step by step.
-use Rattle.std.proofs.Common.{◌≡◌, ℕ, zero, suc, ◌+◌, ◌<◌, ◌≤◌, Bool, true, false, cond, not, ◌&&◌, ◌||◌, eqb, ltb, ◌⊎◌, List, [], ◌∷◌, ◌++◌, length, get_or, take, set, Some, None, Option, sym, refl, ap, ◌∙◌, subst, inl, inr, ⊎_elim, add-one, arith, length-set}
+use Rattle.std.proofs.Common.{◌≡◌, ℕ, zero, suc, ◌+◌, ◌<◌, ◌≤◌, true, false, ltb, List, [], ◌∷◌, length, take, set, Some, Option, sym, refl, ap, ◌∙◌, add-one, arith}
 use Rattle.std.specs.List.{slice_get}
-use Rattle.std.proofs.lemmas.List.{get_or-set_same, get_or-set_other, take_more, take_more_set}
-use Rattle.std.proofs.lemmas.Bool.{false≢true, both_ways, cases_eq, cases_lt, cases_Bool, or_left, or_right, or_from, lt-ltb, le-ltb}
-use Rattle.ancestry.specs.Commits.{Commit, at}
+use Rattle.std.proofs.lemmas.List.{take_more_set}
+use Rattle.std.proofs.lemmas.Bool.{or_left, or_right, or_from, lt-ltb, le-ltb}
+use Rattle.ancestry.specs.Commits.{Commit}
 use Rattle.painting.proofs.Counts.{total-set}
-use Rattle.painting.proofs.Turns.{mark_past}
-use Rattle.painting.specs.Marks.{blank, mark, seen, unmet, total}
+use Rattle.painting.specs.Marks.{mark, seen, unmet, total}
 use Rattle.painting.specs.Walks.{Walk, walk_of, level, meet, meet_all}
 use Rattle.painting.specs.declared.marks.Mark.{Mark}
 

@@ -1,15 +1,13 @@
 -- The results beside the marks, and what painting leaves.
-use Rattle.std.proofs.Common.{◌≡◌, ℕ, zero, suc, ◌+◌, ◌-◌, ◌<◌, ◌≤◌, Bool, true, false, cond, not, ◌&&◌, ◌||◌, eqb, ◌⊎◌, List, [], ◌∷◌, ◌++◌, length, take, set, sym, refl, ap, ◌∙◌, subst, inl, inr, ⊎_elim, arith, length-append, length-set}
+use Rattle.std.proofs.Common.{◌≡◌, ℕ, suc, ◌+◌, ◌<◌, ◌≤◌, Bool, true, false, cond, not, ◌&&◌, ◌||◌, eqb, List, [], ◌∷◌, ◌++◌, length, take, set, sym, refl, ap, ◌∙◌, subst, ⊎_elim, arith, length-append, length-set}
 use Rattle.std.proofs.lemmas.List.{get_or-set_same, get_or-set_other, take_more_set}
-use Rattle.std.proofs.lemmas.List.Sums.{sum_by-cons, sum_by-append}
-use Rattle.std.proofs.lemmas.Bool.{false≢true, true≢false, both_ways, cases_eq, cases_lt, cases_Bool, and_parts, and_from, eqb-true, eq-eqb, ne_eqb, not-true}
+use Rattle.std.proofs.lemmas.List.Sums.{sum_by-cons}
+use Rattle.std.proofs.lemmas.Bool.{both_ways, cases_eq, cases_lt, and_parts, and_from, eqb-true, eq-eqb, ne_eqb, not-true}
 use Rattle.std.proofs.lemmas.Bool.Decides.{nat_tests}
-use Rattle.ancestry.specs.Sets.{any, member}
+use Rattle.ancestry.specs.Sets.{member}
 use Rattle.ancestry.specs.Bases.{shared}
 use Rattle.ancestry.specs.Commits.{Commit, parents_of}
 use Rattle.ancestry.specs.Lawful.{Lawful}
-use Rattle.ancestry.specs.Reaching.{Reaches, id_reaches}
-use Rattle.ancestry.specs.Theorems.{Unreached}
 use Rattle.ancestry.proofs.Tallies.{member-cons}
 use Rattle.ancestry.proofs.Unique.{member_here, member_there, member-nil}
 use Rattle.painting.specs.Entries.{times}
@@ -18,9 +16,9 @@ use Rattle.painting.specs.Painted.{Noted, Down, Good, Painted, Unmet}
 use Rattle.painting.specs.Seeded.{ours, theirs, Blank, places_of, reached_by, meeting}
 use Rattle.painting.specs.declared.marks.Mark.{Mark}
 use Rattle.painting.specs.declared.marks.Told.{Told}
-use Rattle.painting.proofs.Counts.{total-cons, total-set, total_has, idle}
-use Rattle.painting.proofs.Seeds.{places_inside, ids_reach, id_reach, down_places, good_start, noted_start, unmet_start}
-use Rattle.painting.proofs.Turns.{set_keeps, hand_all_keeps, length-hand_all, mark_past, Top, finish}
+use Rattle.painting.proofs.Counts.{total-cons, total-set, idle}
+use Rattle.painting.proofs.Seeds.{ids_reach, id_reach, down_places, good_start}
+use Rattle.painting.proofs.Turns.{set_keeps, hand_all_keeps, length-hand_all, mark_past, finish}
 
 -- HOW OFTEN A PLACE STANDS IN A LIST
 pub times-cons : (p q : ℕ) (qs : List ℕ) → times p (q ∷ qs) ≡ cond (eqb q p) 1 0 + times p qs

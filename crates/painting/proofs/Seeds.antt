@@ -1,33 +1,31 @@
 -- Where painting starts, and what it leaves.
-use Rattle.std.proofs.Common.{◌≡◌, ℕ, zero, suc, ◌+◌, ◌<◌, ◌≤◌, Bool, true, false, cond, not, ◌&&◌, ◌||◌, ◌⊎◌, List, [], ◌∷◌, ◌++◌, map, length, get_or, take, Some, None, Option, sym, refl, ap, ◌∙◌, subst, inl, inr, ⊎_elim, add-one, arith}
-use Rattle.std.proofs.lemmas.Bool.{false≢true, true≢false, both_ways, cases_lt, cases_Bool, or_cases, and_parts, and_from, eqb-true}
+use Rattle.std.proofs.Common.{◌≡◌, ℕ, zero, suc, ◌+◌, ◌<◌, ◌≤◌, Bool, true, false, ◌||◌, List, [], ◌∷◌, ◌++◌, length, get_or, take, Some, None, Option, sym, refl, ap, ◌∙◌, subst, ⊎_elim, add-one, arith}
+use Rattle.std.proofs.lemmas.Bool.{false≢true, true≢false, cases_lt, or_cases, eqb-true}
 use Rattle.ancestry.specs.Sets.{any, member}
 use Rattle.ancestry.specs.Asking.{nums}
-use Rattle.ancestry.specs.Bases.{shared}
-use Rattle.ancestry.specs.Commits.{Commit, place_of, parents_of}
+use Rattle.ancestry.specs.Commits.{Commit, place_of}
 use Rattle.ancestry.specs.Lawful.{Lawful}
 use Rattle.ancestry.specs.Numbers.{num}
 use Rattle.ancestry.specs.Reaching.{Reaches, itself, through, reaches, reached_from, id_reaches}
-use Rattle.ancestry.specs.Theorems.{Unreached}
 use Rattle.ancestry.specs.declared.id.Id.{Id}
 use Rattle.ancestry.proofs.Best.{reached_inside}
 use Rattle.ancestry.proofs.Join.{place_says}
 use Rattle.ancestry.proofs.Reach.{Reaches-trans, reaches_complete, reaches_itself, reaches_sound}
 use Rattle.ancestry.proofs.Sets.{any_intro, any_elim}
 use Rattle.ancestry.proofs.Tallies.{member-cons}
-use Rattle.ancestry.proofs.Unique.{member_here, member_there, member-nil}
+use Rattle.ancestry.proofs.Unique.{member-nil}
 use Rattle.queue.specs.Kinds.{beats}
 use Rattle.queue.specs.Queues.{waiting, room, Whole}
 use Rattle.queue.specs.declared.kinds.Keyed.{Keyed}
 use Rattle.queue.specs.declared.lent.Queue.{Queue}
 use Rattle.painting.specs.Entries.{times, occurs}
 use Rattle.painting.specs.Marks.{blank, mark, joined, told, lively, waits, resulted, total, hand, hand_all}
-use Rattle.painting.specs.Painted.{Kept, Noted, Covers, Closed, Sound, Down, Good, Painted, Unmet}
-use Rattle.painting.specs.Seeded.{ours, theirs, Blank, with_found, places_of, reached_by, meeting}
+use Rattle.painting.specs.Painted.{Kept, Noted, Covers, Closed, Sound, Down, Good, Unmet}
+use Rattle.painting.specs.Seeded.{ours, theirs, Blank, with_found, places_of, reached_by}
 use Rattle.painting.specs.declared.marks.Mark.{Mark}
 use Rattle.painting.specs.declared.marks.Told.{Told}
-use Rattle.painting.proofs.Counts.{total-cons, idle}
-use Rattle.painting.proofs.Turns.{hand_all_keeps, hand_all-grown, hand_all-covers, length-hand_all, mark_past, Top, finish}
+use Rattle.painting.proofs.Counts.{total-cons}
+use Rattle.painting.proofs.Turns.{hand_all_keeps, hand_all-grown, hand_all-covers, length-hand_all, mark_past}
 
 -- a sum over marks that each count 0
 pub total_none : (f : Mark → ℕ) (ms : List Mark) → ((p : ℕ) → f (mark ms p) ≡ 0) → total f ms ≡ 0

@@ -1,19 +1,18 @@
 -- What the walk down from results keeps.
-use Rattle.std.proofs.Common.{◌≡◌, ℕ, zero, suc, ◌+◌, ◌-◌, ◌<◌, ◌≤◌, Bool, true, false, cond, not, ◌&&◌, ◌||◌, eqb, ltb, ◌⊎◌, List, [], ◌∷◌, ◌++◌, length, get_or, take, set, sym, refl, ap, ◌∙◌, subst, inl, inr, ⊎_elim, arith, length-set}
-use Rattle.std.proofs.lemmas.List.{get_or-set_same, get_or-set_other, set_past, take_more}
-use Rattle.std.proofs.lemmas.Bool.{false≢true, true≢false, both_ways, cases_eq, cases_lt, cases_Bool, or_cases, or_left, or_right, or_parts, and_parts, and_from, eqb-true, eq-eqb, ltb-true, ltb-false, not-true, not_from_false}
+use Rattle.std.proofs.Common.{◌≡◌, ℕ, ◌+◌, ◌-◌, ◌<◌, ◌≤◌, Bool, true, false, cond, ◌||◌, eqb, ltb, ◌⊎◌, List, [], ◌∷◌, ◌++◌, length, get_or, take, set, sym, refl, ap, ◌∙◌, subst, inl, inr, ⊎_elim, arith, length-set}
+use Rattle.std.proofs.lemmas.List.{get_or-set_same, get_or-set_other, take_more}
+use Rattle.std.proofs.lemmas.Bool.{both_ways, cases_eq, or_cases, or_left, or_right, eqb-true, ltb-true}
 use Rattle.std.proofs.lemmas.Bool.Decides.{nat_tests}
 use Rattle.ancestry.proofs.Join.{member-append}
-use Rattle.ancestry.proofs.Reach.{Reaches-trans, reaches_sound}
+use Rattle.ancestry.proofs.Reach.{Reaches-trans}
 use Rattle.ancestry.proofs.Tallies.{member-cons}
 use Rattle.ancestry.proofs.Unique.{member_here, member_there, member-nil}
 use Rattle.ancestry.specs.Commits.{Commit, at}
-use Rattle.ancestry.specs.Keys.{rank}
 use Rattle.ancestry.specs.Lawful.{Lawful}
-use Rattle.ancestry.specs.Reaching.{Reaches, itself, through}
-use Rattle.ancestry.specs.Sets.{any, member}
-use Rattle.painting.proofs.Counts.{total-set, total-cons}
-use Rattle.painting.proofs.Turns.{set_keeps, mark_past}
+use Rattle.ancestry.specs.Reaching.{itself, through}
+use Rattle.ancestry.specs.Sets.{member}
+use Rattle.painting.proofs.Counts.{total-cons}
+use Rattle.painting.proofs.Turns.{set_keeps}
 use Rattle.painting.specs.Marks.{blank, mark, seen, unmet, total}
 use Rattle.painting.specs.Walks.{Walk, walk_of, level, meet, meet_all, Done, Beneath, Fresh, Tracked}
 use Rattle.painting.specs.declared.marks.Mark.{Mark}

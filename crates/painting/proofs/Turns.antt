@@ -1,18 +1,16 @@
 -- One place told, all parents told, one turn: what is kept.
-use Rattle.std.proofs.Common.{◌≡◌, ℕ, zero, suc, ◌+◌, ◌<◌, ◌≤◌, Bool, true, false, cond, not, ◌&&◌, ◌||◌, eqb, ◌⊎◌, List, [], ◌∷◌, length, get_or, set, sym, refl, ap, ◌∙◌, subst, inl, inr, ⊎_elim, arith, length-set}
+use Rattle.std.proofs.Common.{◌≡◌, ℕ, zero, suc, ◌<◌, ◌≤◌, Bool, true, false, cond, not, ◌&&◌, ◌||◌, eqb, List, [], ◌∷◌, length, set, sym, refl, ◌∙◌, subst, ⊎_elim, arith, length-set}
 use Rattle.std.proofs.lemmas.List.{get_or-set_same, get_or-set_other, set_past}
-use Rattle.std.proofs.lemmas.List.Sums.{sum_by-set}
-use Rattle.std.proofs.lemmas.Bool.{false≢true, true≢false, both_ways, cases_eq, cases_lt, cases_Bool, or_cases, or_left, or_right, and_parts, and_from, eqb-true, eq-eqb}
-use Rattle.std.proofs.lemmas.Bool.Decides.{nat_tests}
+use Rattle.std.proofs.lemmas.Bool.{true≢false, both_ways, cases_eq, cases_lt, cases_Bool, or_cases, or_left, or_right, and_parts, eqb-true}
 use Rattle.ancestry.proofs.Reach.{Reaches-trans}
 use Rattle.ancestry.proofs.Tallies.{member-cons}
 use Rattle.ancestry.proofs.Unique.{member_here, member_there, member-nil}
 use Rattle.ancestry.specs.Commits.{Commit, at}
 use Rattle.ancestry.specs.Lawful.{Lawful}
 use Rattle.ancestry.specs.Reaching.{Reaches, itself, through}
-use Rattle.ancestry.specs.Sets.{any, member}
-use Rattle.painting.specs.Marks.{blank, mark, covers, joined, told, newly, settled, lively, waits, cost, total, hand, hand_all, settle, turn}
-use Rattle.painting.specs.Painted.{Covers, Handed, Closed, Under, Sound, Down, Rooted, Good}
+use Rattle.ancestry.specs.Sets.{member}
+use Rattle.painting.specs.Marks.{blank, mark, covers, joined, told, newly, settled, hand, hand_all, settle, turn}
+use Rattle.painting.specs.Painted.{Covers, Handed, Closed, Under, Sound, Down, Good}
 use Rattle.painting.specs.declared.marks.Mark.{Mark}
 use Rattle.painting.specs.declared.marks.Told.{Told}
 

@@ -1,5 +1,5 @@
 -- What painting keeps true. A and B are what the first commit and what the others reach.
-use Rattle.std.specs.Prelude.{◌≡◌, ℕ, ◌<◌, ◌≤◌, Bool, true, false, cond, List, length}
+use Rattle.std.specs.Prelude.{◌≡◌, ℕ, ◌<◌, ◌≤◌, Bool, true, false, List, length}
 use Rattle.ancestry.specs.Sets.{member}
 use Rattle.ancestry.specs.Commits.{Commit, parents_of}
 use Rattle.ancestry.specs.Reaching.{Reaches}

@@ -1,5 +1,5 @@
 -- The walk down from the parents of results, and what it leaves of them.
-use Rattle.std.specs.Prelude.{◌≡◌, ℕ, ◌<◌, ◌≤◌, Bool, true, false, cond, ◌||◌, ◌⊎◌, List, [], ◌∷◌, ◌++◌, length, take, set, nat_lt, slice_set}
+use Rattle.std.specs.Prelude.{◌≡◌, ℕ, ◌<◌, ◌≤◌, Bool, true, false, cond, ◌||◌, ◌⊎◌, List, [], ◌∷◌, ◌++◌, length, take, nat_lt, slice_set}
 use Rattle.ancestry.specs.Sets.{member}
 use Rattle.ancestry.specs.Commits.{Commit, at, parents_of}
 use Rattle.ancestry.specs.Keys.{rank}

@@ -1,11 +1,11 @@
 -- One more commit at a time: the bases of those so far reach all that they share.
-use Rattle.std.proofs.Common.{◌≡◌, ℕ, zero, suc, ◌+◌, ◌<◌, ◌≤◌, Bool, true, false, ◌&&◌, ◌||◌, eqb, List, [], ◌∷◌, ◌++◌, length, get_or, take, set, Some, None, Option, sym, refl, ap, ◌∙◌, subst, ⊎_elim, add-one, arith}
+use Rattle.std.proofs.Common.{◌≡◌, ℕ, zero, suc, ◌+◌, ◌<◌, ◌≤◌, Bool, true, false, ◌&&◌, ◌||◌, eqb, List, [], ◌∷◌, ◌++◌, length, get_or, take, set, Some, None, sym, refl, ap, ◌∙◌, subst, ⊎_elim, add-one, arith}
 use Rattle.std.proofs.lemmas.List.{length-map, take_all}
 use Rattle.std.proofs.lemmas.Bool.{and_parts, and_from, eqb-true}
 use Rattle.std.proofs.lemmas.Bool.Decides.{nat_tests}
 use Rattle.ancestry.specs.Sets.{any, every, member}
 use Rattle.ancestry.specs.Asking.{nums}
-use Rattle.ancestry.specs.Bases.{best, shared_by_all}
+use Rattle.ancestry.specs.Bases.{shared_by_all}
 use Rattle.ancestry.specs.Commits.{Commit, place_of}
 use Rattle.ancestry.specs.Lawful.{Lawful}
 use Rattle.ancestry.specs.Numbers.{num}

@@ -1,6 +1,6 @@
 -- What is lent of owned memory, and what comes back.
 use Rattle.std.proofs.Common.{◌≡◌, ℕ, List, Result, sym, subst}
-use Rattle.ancestry.specs.Asking.{Space, space_of, Listed}
+use Rattle.ancestry.specs.Asking.{space_of, Listed}
 use Rattle.ancestry.specs.declared.id.Id.{Id}
 use Rattle.ancestry.specs.declared.refusal.Refusal.{Refusal}
 

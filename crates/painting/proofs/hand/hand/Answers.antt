@@ -1,8 +1,8 @@
-use Rattle.std.proofs.Common.{◌≡◌, ℕ, ◌+◌, ◌-◌, ◌<◌, ◌≤◌, true, false, length, set, sym, refl, ap, ◌∙◌, subst, arith}
+use Rattle.std.proofs.Common.{◌≡◌, ◌+◌, ◌-◌, ◌<◌, ◌≤◌, length, set, sym, refl, ap, ◌∙◌, subst, arith}
 use Rattle.std.proofs.lemmas.Bool.{not-true, not-false}
 use Rattle.history.specs.Meaning.{Same}
 use Rattle.history.proofs.Sames.{same_self}
-use Rattle.painting.specs.Marks.{mark, covers, joined, lively, hand}
+use Rattle.painting.specs.Marks.{mark, covers, joined, lively}
 use Rattle.painting.specs.Bits.{flags}
 use Rattle.painting.specs.declared.marks.Mark.{Mark}
 use Rattle.painting.proofs.Codes.{length-flags}

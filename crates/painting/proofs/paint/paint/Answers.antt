@@ -1,12 +1,11 @@
-use Rattle.std.proofs.Common.{◌≡◌, ℕ, ◌-◌, ◌<◌, ◌≤◌, Bool, true, List, ◌∷◌, length, take, set, sym, refl, ap, ◌∙◌, subst, arith}
+use Rattle.std.proofs.Common.{◌≡◌, ◌<◌, Bool, true, List, ◌∷◌, length, take, sym, ap, ◌∙◌, subst, arith}
 use Rattle.std.specs.List.Sorted.{IsPermutation}
 use Rattle.std.proofs.lemmas.List.{length-take-le}
-use Rattle.ancestry.specs.Commits.{Commit, parents_of}
 use Rattle.history.proofs.Sames.{same_self, same_then}
 use Rattle.queue.specs.Queues.{waiting}
 use Rattle.painting.specs.Bits.{flags}
-use Rattle.painting.specs.Marks.{mark, hand_all, settle, turn, told, newly, settled, lively, total, cost, appended}
-use Rattle.painting.specs.Painted.{Kept, Noted, Good, Unmet}
+use Rattle.painting.specs.Marks.{mark, turn, newly, total, cost, appended}
+use Rattle.painting.specs.Painted.{Noted, Good, Unmet}
 use Rattle.painting.specs.declared.marks.Mark.{Mark}
 use Rattle.painting.proofs.Codes.{length-flags}
 use Rattle.painting.proofs.Counts.{took_some, take_some, taken-waits, waiting_inside, kept_taken, kept_settled, turn_written, cost-turn}

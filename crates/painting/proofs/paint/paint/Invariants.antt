@@ -1,4 +1,4 @@
-use Rattle.std.proofs.Common.{◌≡◌, ℕ, ◌≤◌, Bool, length, take}
+use Rattle.std.proofs.Common.{ℕ, ◌≤◌, Bool, length, take}
 use Rattle.history.specs.Meaning.{Same}
 use Rattle.painting.specs.Bits.{flags}
 use Rattle.painting.specs.Marks.{total, cost}

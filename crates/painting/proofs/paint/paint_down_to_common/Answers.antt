@@ -1,4 +1,4 @@
-use Rattle.std.proofs.Common.{◌≡◌, ℕ, List, [], ◌∷◌, length, take, sym, ap, ◌∙◌, subst, arith}
+use Rattle.std.proofs.Common.{◌≡◌, List, [], ◌∷◌, length, sym, ap, ◌∙◌, subst, arith}
 use Rattle.ancestry.specs.Asking.{nums}
 use Rattle.ancestry.specs.Commits.{Commit}
 use Rattle.ancestry.specs.Numbers.{num}

@@ -1,5 +1,4 @@
 use Rattle.std.proofs.Common.{◌≡◌, ℕ, ◌-◌, true, List, [], ◌∷◌, length, take, sym, ap, ◌∙◌, subst, arith}
-use Rattle.ancestry.specs.Commits.{Commit}
 use Rattle.ancestry.specs.Numbers.{num}
 use Rattle.ancestry.specs.Sets.{member}
 use Rattle.history.proofs.Sames.{same_then}

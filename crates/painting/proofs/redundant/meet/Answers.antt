@@ -1,8 +1,7 @@
-use Rattle.std.proofs.Common.{◌≡◌, ◌+◌, ◌<◌, false, length, set, sym, refl, ap, ◌∙◌, arith}
+use Rattle.std.proofs.Common.{◌≡◌, ◌<◌, false, length, set, sym, refl, ap, ◌∙◌, arith}
 use Rattle.history.proofs.Sames.{same_self}
 use Rattle.painting.specs.Bits.{flags}
 use Rattle.painting.specs.Marks.{mark, seen, unmet, total}
-use Rattle.painting.specs.Walks.{walk_of}
 use Rattle.painting.specs.declared.marks.Mark.{Mark}
 use Rattle.painting.proofs.Codes.{length-flags}
 use Rattle.painting.proofs.Meets.{meet_met, meet_below, meet-push, room-push, room_some}

@@ -1,11 +1,9 @@
-use Rattle.std.proofs.Common.{◌≡◌, ℕ, ◌-◌, ◌<◌, ◌≤◌, true, List, length, take, sym, ap, ◌∙◌, subst, arith}
+use Rattle.std.proofs.Common.{◌≡◌, ℕ, ◌-◌, length, take, ap, ◌∙◌, arith}
 use Rattle.std.proofs.lemmas.List.{length-take-le}
-use Rattle.ancestry.specs.Commits.{Commit}
-use Rattle.ancestry.specs.Sets.{member, keep}
+use Rattle.ancestry.specs.Sets.{keep}
 use Rattle.history.proofs.Sames.{same_self, same_then}
 use Rattle.painting.specs.Bits.{flags}
 use Rattle.painting.specs.Marks.{mark, left}
-use Rattle.painting.specs.Walks.{level}
 use Rattle.painting.proofs.Left.{keep_inside, keep_fresh, bests_one, bests_from}
 use Rattle.painting.proofs.redundant.remove_redundant.Goals as goal
 use Rattle.painting.proofs.redundant.remove_redundant.Goals.{After-retain-count}

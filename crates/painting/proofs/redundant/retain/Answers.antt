@@ -1,9 +1,7 @@
-use Rattle.std.proofs.Common.{◌≡◌, ℕ, ◌+◌, ◌<◌, ◌≤◌, Bool, true, length, get_or, take, sym, refl, ap, ◌∙◌, subst, arith}
-use Rattle.std.proofs.lemmas.List.{take_all, length-take-le}
+use Rattle.std.proofs.Common.{◌≡◌, ℕ, Bool, get_or, take, sym, refl, ap, ◌∙◌, arith}
 use Rattle.ancestry.specs.Sets.{keep}
 use Rattle.painting.specs.Bits.{flags}
-use Rattle.painting.specs.Marks.{mark, left, appended}
-use Rattle.painting.specs.declared.marks.Mark.{Mark}
+use Rattle.painting.specs.Marks.{mark, left}
 use Rattle.painting.proofs.Left.{keep_none, keep_append, taken-member}
 use Rattle.painting.proofs.redundant.retain.Goals as goal
 

@@ -1,4 +1,4 @@
-use Rattle.std.proofs.Common.{◌≡◌, ℕ, ◌-◌, ◌<◌, List, length, get_or, take, sym, ap, ◌∙◌, arith}
+use Rattle.std.proofs.Common.{◌≡◌, ◌-◌, List, length, get_or, take, ap, ◌∙◌, arith}
 use Rattle.ancestry.specs.Commits.{Commit, parents_of}
 use Rattle.history.proofs.Sames.{same_self, same_then}
 use Rattle.painting.specs.Bits.{flags}

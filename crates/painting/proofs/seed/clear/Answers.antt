@@ -1,4 +1,4 @@
-use Rattle.std.proofs.Common.{◌≡◌, ◌<◌, ◌≢◌, length, sym, refl, ap, ◌∙◌, arith, get_or-set_other, get_or-set_same, below_more}
+use Rattle.std.proofs.Common.{◌<◌, ◌≢◌, length, sym, ap, ◌∙◌, arith, get_or-set_other, get_or-set_same, below_more}
 use Rattle.painting.specs.Bits.{of_bits, flags}
 use Rattle.painting.proofs.Codes.{flag_at, length-flags}
 use Rattle.painting.proofs.Seeds.{blank_past}

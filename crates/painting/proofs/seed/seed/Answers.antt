@@ -1,4 +1,4 @@
-use Rattle.std.proofs.Common.{◌≡◌, length, sym, ap, ◌∙◌, arith}
+use Rattle.std.proofs.Common.{length, sym, ap, ◌∙◌, arith}
 use Rattle.ancestry.proofs.Join.{place_says}
 use Rattle.history.proofs.Sames.{same_then}
 use Rattle.painting.proofs.Seeds.{seed_found, seed_absent}

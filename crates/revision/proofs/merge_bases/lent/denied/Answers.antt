@@ -1,5 +1,5 @@
 use Rattle.std.proofs.Common.{arith}
-use Rattle.revision.proofs.Members.{Enough, denied_many, short_marks, short_queue, short_stack, short_answers, not_denied}
+use Rattle.revision.proofs.Members.{denied_many, short_marks, short_queue, short_stack, short_answers, not_denied}
 use Rattle.revision.proofs.merge_bases.lent.denied.Goals as goal
 
 pub returns-then-others-gt-MAX_OTHERS : goal.returns-then-others-gt-MAX_OTHERS

@@ -1,10 +1,9 @@
-use Rattle.std.proofs.Common.{◌≡◌, ℕ, ◌≤◌, List, length, Some, None, Option, sym, refl, ap, ◌∙◌, arith}
+use Rattle.std.proofs.Common.{◌≡◌, ℕ, List, length, None, sym, refl, ap, ◌∙◌, arith}
 use Rattle.std.proofs.lemmas.List.{length-take-le}
 use Rattle.ancestry.specs.Asking.{space_of, denied, nums, num_if}
 use Rattle.ancestry.specs.Bases.{octopus, best, ids, head, shared_by_all}
 use Rattle.ancestry.specs.Commits.{Commit}
 use Rattle.ancestry.specs.Numbers.{num}
-use Rattle.ancestry.specs.declared.id.Id.{Id}
 use Rattle.history.proofs.Sames.{same_then}
 use Rattle.revision.proofs.Members.{every_some, octopus_plain, octopus_walked, enough, answered}
 use Rattle.revision.proofs.merge_bases.octopus.octopus.Goals as goal
