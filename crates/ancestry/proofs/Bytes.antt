@@ -1,6 +1,6 @@
 -- Ids as their five words and twenty bytes.
 use Rattle.std.proofs.Common.{◌≡◌, ℕ, ◌+◌, ◌*◌, ◌/◌, ◌%◌, ◌^◌, ◌<◌, ◌≤◌, List, [], ◌∷◌, ◌++◌, length, get_or, sym, refl, ap, ◌∙◌, arith}
-use Rattle.std.specs.List.{AllByRecursion as All}
+use Rattle.std.specs.List.{AllByRecursion}
 use Rattle.std.proofs.ByRecursion.{All-get_or}
 use Rattle.ancestry.specs.Numbers.{num, Words, spelled_on, spelled, digits, part}
 use Rattle.ancestry.specs.Theorems.{IdLaw}
@@ -43,7 +43,7 @@ spelled_bytes n w l =
     let d : w ≡ w / 256 * 256 + w % 256 = omega arith in
     omega arith
 
-small_bytes : (w : ℕ) → All (λ b. b < 256) (bytes_of w)
+small_bytes : (w : ℕ) → AllByRecursion (λ b. b < 256) (bytes_of w)
 small_bytes w = (omega arith, (omega arith, (omega arith, (omega arith, tt))))
 
 pub id_bytes : (i : Id) → Words i → digits 256 20 (num i) ≡ bytes_of i.first ++ (bytes_of i.second ++ (bytes_of i.third ++ (bytes_of i.fourth ++ bytes_of i.fifth)))
@@ -52,7 +52,7 @@ id_bytes i w = ap (digits 256 20) (sym spells) ∙ digits-spelled 256 all 20 ref
     all : List ℕ
     all = bytes_of i.first ++ (bytes_of i.second ++ (bytes_of i.third ++ (bytes_of i.fourth ++ bytes_of i.fifth)))
 
-    small : All (λ b. b < 256) all
+    small : AllByRecursion (λ b. b < 256) all
     small = (
       omega arith,
       (

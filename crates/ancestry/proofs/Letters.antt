@@ -1,6 +1,6 @@
 -- Letters, and the digits that they stand for.
 use Rattle.std.proofs.Common.{◌≡◌, ℕ, zero, suc, ◌+◌, ◌*◌, ◌/◌, ◌%◌, ◌^◌, ◌<◌, ◌≤◌, Bool, true, false, cond, not, ◌&&◌, eqb, ◌≢◌, List, [], ◌∷◌, ◌++◌, map, length, get_or, set, Some, None, Option, unwrap_or, sym, refl, ap, ◌∙◌, ⊎_elim, arith, length-set, get_or-set_other, get_or-set_same, below_more}
-use Rattle.std.specs.List.{AllByRecursion as All}
+use Rattle.std.specs.List.{AllByRecursion}
 use Rattle.std.proofs.lemmas.List.{append_assoc, map-append, length-map}
 use Rattle.std.proofs.ByRecursion.{All-append}
 use Rattle.std.proofs.lemmas.Bool.{eqb-true, eq-eqb, cases_lt, and_parts, and_from}
@@ -178,20 +178,20 @@ letter-back d l =
     let p = and_parts (is_letter (letter d)) (eqb (value (letter d)) d) (below_elim (λ d. is_letter (letter d) && eqb (value (letter d)) d) 16 d letters-back l) in
     (p.0, eqb-true (value (letter d)) d p.1)
 
-all_letters : (ds : List ℕ) → All (λ d. d < 16) ds → every is_letter (map letter ds) ≡ true
+all_letters : (ds : List ℕ) → AllByRecursion (λ d. d < 16) ds → every is_letter (map letter ds) ≡ true
 unfolding every
 all_letters [] a = refl
 all_letters (d ∷ ds) a = and_from (is_letter (letter d)) (every is_letter (map letter ds)) (letter-back d a.0).0 (all_letters ds a.1)
 
-values_back : (ds : List ℕ) → All (λ d. d < 16) ds → map value (map letter ds) ≡ ds
+values_back : (ds : List ℕ) → AllByRecursion (λ d. d < 16) ds → map value (map letter ds) ≡ ds
 values_back [] a = refl
 values_back (d ∷ ds) a = let p : value (letter d) ≡ d = (letter-back d a.0).1 in let q : map value (map letter ds) ≡ ds = values_back ds a.1 in cc
 
-reading-letters : (ds : List ℕ) → All (λ d. d < 16) ds → reading (map letter ds) ≡ Some (spelled 16 ds)
+reading-letters : (ds : List ℕ) → AllByRecursion (λ d. d < 16) ds → reading (map letter ds) ≡ Some (spelled 16 ds)
 unfolding reading
 reading-letters ds a = ap (λ (b : Bool). cond b (Some (spelled 16 (map value (map letter ds)))) None) (all_letters ds a) ∙ ap (λ (r : List ℕ). Some (spelled 16 r)) (values_back ds a)
 
-small_digits : (k n : ℕ) → All (λ d. d < 16) (digits 16 k n)
+small_digits : (k n : ℕ) → AllByRecursion (λ d. d < 16) (digits 16 k n)
 unfolding digits
 small_digits zero n = tt
 small_digits (suc k) n = All-append (λ d. d < 16) (digits 16 k (n / 16)) ((n % 16) ∷ []) (small_digits k (n / 16)) (omega arith, tt)

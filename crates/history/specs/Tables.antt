@@ -1,6 +1,6 @@
 -- What a table of rows means.
 use Rattle.std.specs.Prelude.{◌≡◌, ℕ, ◌≤◌, List, [], map, length, take, pos, None}
-use Rattle.std.specs.List.{AllByRecursion as All}
+use Rattle.std.specs.List.{AllByRecursion}
 use Rattle.ancestry.specs.Commits.{Commit}
 use Rattle.ancestry.specs.Lawful.{Laws}
 use Rattle.ancestry.specs.Numbers.{num}
@@ -24,7 +24,7 @@ pub record Neat (r : Row) : Type 0 where
 pub record Tidy {N : ℕ} (t : Table N) : Type 0 where
   pub within : t.len ≤ N
   pub filled : length t.rows ≡ N
-  pub neat : All Neat t.rows
+  pub neat : AllByRecursion Neat t.rows
 
 -- a table that stores the commits of a history with this capacity
 pub record Stored {N : ℕ} (room : ℕ) (t : Table N) : Type 0 where

@@ -1,6 +1,6 @@
 use Rattle.std.proofs.Common.{◌≡◌, ℕ, ◌+◌, ◌-◌, false, ◌∷◌, take, sym, subst, arith}
 use Rattle.std.specs.List.Sorted.{IsPermutation}
-use Rattle.std.specs.List.{AllByRecursion as All}
+use Rattle.std.specs.List.{AllByRecursion}
 use Rattle.queue.specs.Heaps.{Heaped}
 use Rattle.queue.proofs.lent.Queue.take.Goals as goal
 
@@ -21,6 +21,6 @@ returns g c =
       room = omega arith;
       answer = (
         subst (λ (m : ℕ). IsPermutation (take m xs) (x ∷ take (n - 1) ys)) e told.shuffled,
-        subst (λ (m : ℕ). All (λ y. b y x ≡ false) (take m xs)) e h.1,
+        subst (λ (m : ℕ). AllByRecursion (λ y. b y x ≡ false) (take m xs)) e h.1,
       );
     }
