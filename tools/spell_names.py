@@ -3,9 +3,10 @@
 
     python3 tools/spell_names.py [FOLDER]
 
-tools/spelling.txt has a line for each name: the old one and the new one. They are replaced as whole names in specs/, proofs/
-and the clauses of src/, and in comments where they stand between backticks. Strings stay, and so do the names of functions,
-of variables and of whatever else the code declares: none of them has a dash.
+tools/spelling.txt has a line for each name: the old one, the new one, and, where the old one also names something else, the
+files of crates/ in which it is meant. Names are replaced whole, in specs/, proofs/ and the clauses of src/, and in comments
+where they stand between backticks. Strings stay, and so do the names of functions, of variables and of whatever else the code
+declares: none of them has a dash.
 """
 import pathlib
 import re
@@ -16,8 +17,11 @@ NAME = re.compile(r"[^\s(){}\[\].,;\"`]+")
 
 
 def table():
-    pairs = [line.split() for line in (HERE / "spelling.txt").read_text().splitlines()]
-    return dict(pairs)
+    return [line.split() for line in (HERE / "spelling.txt").read_text().splitlines()]
+
+
+def names_in(rows, file):
+    return {old: new for old, new, *files in rows if not files or file in files}
 
 
 def code(text, new):
@@ -40,12 +44,13 @@ def line(text, mark, new):
 
 def main():
     top = pathlib.Path(sys.argv[1] if len(sys.argv) > 1 else HERE.parent)
-    new = table()
+    rows = table()
     changed = 0
     for path in sorted(top.glob("crates/*/*/**/*")):
         if path.suffix not in (".antt", ".rt") or "out" in path.relative_to(top).parts:
             continue
         mark = "--" if path.suffix == ".antt" else "//"
+        new = names_in(rows, str(path.relative_to(top / "crates")))
         before = path.read_text()
         after = "".join(line(l, mark, new) for l in before.splitlines(keepends=True))
         if after != before:

@@ -2,7 +2,7 @@
 #![tactic(auto)]
 
 use bundle::run;
-use history::{Reader, Rows};
+use history::Rows;
 use std::io::{BufWriter, Read, Write};
 use std::process::ExitCode;
 use std::{env, fs, io};
