@@ -1,7 +1,10 @@
 #!/usr/bin/env python3
 """Respells the repository's own definitions and lemmas: words in snake case, types and laws in camel case.
 
-    python3 tools/spell_names.py [FOLDER]
+    python3 tools/spell_names.py FOLDER
+
+FOLDER is a checkout of the older spelling, after the toolchain's own script. In this repository the names are in place, and
+a run would also touch names that the check makes.
 
 tools/spelling.txt has a line for each name: the old one, the new one, and, where the old one also names something else, the
 files of crates/ in which it is meant. Names are replaced whole, in specs/, proofs/ and the clauses of src/, and in comments
@@ -43,7 +46,9 @@ def line(text, mark, new):
 
 
 def main():
-    top = pathlib.Path(sys.argv[1] if len(sys.argv) > 1 else HERE.parent)
+    if len(sys.argv) != 2:
+        sys.exit(__doc__)
+    top = pathlib.Path(sys.argv[1])
     rows = table()
     changed = 0
     for path in sorted(top.glob("crates/*/*/**/*")):
