@@ -1,20 +1,17 @@
 -- Ids as their five words and twenty bytes.
 use Rattle.std.proofs.Common.{◌≡◌, ℕ, ◌+◌, ◌*◌, ◌/◌, ◌%◌, ◌^◌, ◌<◌, ◌≤◌, List, [], ◌∷◌, ◌++◌, length, get_or, sym, refl, ap, ◌∙◌, arith}
 use Rattle.std.specs.List.{AllByRecursion}
-use Rattle.std.proofs.ByRecursion.{All-get_or}
-use Rattle.ancestry.specs.Numbers.{num, Words, spelled_on, spelled, digits, part}
+use Rattle.std.proofs.ByRecursion.{All-get_or, All-append}
+use Rattle.ancestry.specs.Numbers.{spelled_on, spelled, digits, part}
+use Rattle.ancestry.specs.Digits.{digits-spelled}
+use Rattle.ancestry.specs.Ids.{num, Words, words_of, words_back}
+use Rattle.ancestry.specs.declared.id.Id.TheInside.{Inside}
 use Rattle.ancestry.specs.Theorems.{IdLaw}
-use Rattle.ancestry.specs.declared.id.Id.{Id}
-use Rattle.ancestry.proofs.Spelling.{digits-spelled, part_all, part_length, part_split, spelled_shift, spelled_split}
+use Rattle.ancestry.proofs.Spelling.{part-cons, part_all, part_length, part_split, spelled_shift, spelled_split}
 
 pub id_law : IdLaw
 id_law a b v w e =
-    let e1 : a.first ≡ b.first = omega arith in
-    let e2 : a.second ≡ b.second = omega arith in
-    let e3 : a.third ≡ b.third = omega arith in
-    let e4 : a.fourth ≡ b.fourth = omega arith in
-    let e5 : a.fifth ≡ b.fifth = omega arith in
-    λ i. record { first = e1 i; second = e2 i; third = e3 i; fourth = e4 i; fifth = e5 i }
+    sym (words_back a v) ∙ ap words_of e ∙ words_back b w
 
 -- WORDS AND BYTES
 four_more : (xs : List ℕ) (i n : ℕ) → i + 4 ≤ length xs → spelled_on 256 n (part xs i 4) ≡ n * 4294967296 + spelled 256 (part xs i 4)
@@ -46,55 +43,64 @@ spelled_bytes n w l =
 small_bytes : (w : ℕ) → AllByRecursion (λ b. b < 256) (bytes_of w)
 small_bytes w = (omega arith, (omega arith, (omega arith, (omega arith, tt))))
 
-pub id_bytes : (i : Id) → Words i → digits 256 20 (num i) ≡ bytes_of i.first ++ (bytes_of i.second ++ (bytes_of i.third ++ (bytes_of i.fourth ++ bytes_of i.fifth)))
-id_bytes i w = ap (digits 256 20) (sym spells) ∙ digits-spelled 256 all 20 refl (λ j l. All-get_or (λ b. b < 256) all j 0 l small)
-  where
-    all : List ℕ
-    all = bytes_of i.first ++ (bytes_of i.second ++ (bytes_of i.third ++ (bytes_of i.fourth ++ bytes_of i.fifth)))
+-- the bytes of words, one after another
+abbrev pub all_bytes : List ℕ → List ℕ
+all_bytes [] = []
+all_bytes (w ∷ ws) = bytes_of w ++ all_bytes ws
 
-    small : AllByRecursion (λ b. b < 256) all
-    small = (
-      omega arith,
-      (
-        omega arith,
-        (
-          omega arith,
-          (
-            omega arith,
-            (
-              omega arith,
-              (
-                omega arith,
-                (
-                  omega arith,
-                  (
-                    omega arith,
-                    (
-                      omega arith,
-                      (
-                        omega arith,
-                        (omega arith, (omega arith, (omega arith, (omega arith, (omega arith, (omega arith, (omega arith, (omega arith, (omega arith, (omega arith, tt)))))))))),
-                      ),
-                    ),
-                  ),
-                ),
-              ),
-            ),
-          ),
-        ),
-      ),
-    )
+-- bytes spell what the words spell that they are of
+pub spelled_words : (n : ℕ) (ws : List ℕ) → AllByRecursion (λ w. w < 4294967296) ws → spelled_on 256 n (all_bytes ws) ≡ spelled_on 4294967296 n ws
+unfolding spelled_on
+spelled_words n [] a = refl
+spelled_words n (w ∷ ws) a =
+    spelled_split 256 n (bytes_of w) (all_bytes ws)
+    ∙ ap (λ (k : ℕ). spelled_on 256 k (all_bytes ws)) (spelled_bytes n w a.0)
+    ∙ spelled_words (n * 4294967296 + w) ws a.1
 
-    spells : spelled 256 all ≡ num i
-    spells = spelled_split 256 0 (bytes_of i.first) _ ∙ spelled_split 256 _ (bytes_of i.second) _ ∙ spelled_split 256 _ (bytes_of i.third) _ ∙ spelled_split 256 _ (bytes_of i.fourth) (bytes_of i.fifth)
-        ∙ spelled_bytes _ i.fifth w.fifth
-        ∙ ap (λ (n : ℕ). n * 4294967296 + i.fifth) (spelled_bytes _ i.fourth w.fourth
-        ∙ ap (λ (n : ℕ). n * 4294967296 + i.fourth) (spelled_bytes _ i.third w.third
-        ∙ ap (λ (n : ℕ). n * 4294967296 + i.third) (spelled_bytes _ i.second w.second
-        ∙ ap (λ (n : ℕ). n * 4294967296 + i.second) (spelled_bytes 0 i.first w.first ∙ omega arith))))
+all_small : (ws : List ℕ) → AllByRecursion (λ b. b < 256) (all_bytes ws)
+all_small [] = tt
+all_small (w ∷ ws) = All-append (λ b. b < 256) (bytes_of w) (all_bytes ws) (small_bytes w) (all_small ws)
 
--- the same, as the four bytes of each word are read out
-pub id_bytes_out : (i : Id) → Words i → (a b c d e : List ℕ) → a ≡ bytes_of i.first → b ≡ bytes_of i.second → c ≡ bytes_of i.third → d ≡ bytes_of i.fourth → e ≡ bytes_of i.fifth
+-- a list of five
+pub five : (ws : List ℕ) → length ws ≡ 5 → ws ≡ get_or ws 0 0 ∷ get_or ws 1 0 ∷ get_or ws 2 0 ∷ get_or ws 3 0 ∷ get_or ws 4 0 ∷ []
+five ws e =
+    sym (part_all ws 5 e) ∙ part-cons ws 0 1 4 (omega arith) refl
+    ∙ ap (λ (r : List ℕ). get_or ws 0 0 ∷ r) (part-cons ws 1 2 3 (omega arith) refl
+    ∙ ap (λ (r : List ℕ). get_or ws 1 0 ∷ r) (part-cons ws 2 3 2 (omega arith) refl
+    ∙ ap (λ (r : List ℕ). get_or ws 2 0 ∷ r) (part-cons ws 3 4 1 (omega arith) refl
+    ∙ ap (λ (r : List ℕ). get_or ws 3 0 ∷ r) (part-cons ws 4 5 0 (omega arith) refl))))
+
+-- the twenty bytes of five words
+pub id_bytes : (v w x y z : ℕ) → v < 4294967296 → w < 4294967296 → x < 4294967296 → y < 4294967296 → z < 4294967296 →
+    digits 256 20 (spelled 4294967296 (v ∷ w ∷ x ∷ y ∷ z ∷ [])) ≡ all_bytes (v ∷ w ∷ x ∷ y ∷ z ∷ [])
+id_bytes v w x y z a b c d e =
+    ap (digits 256 20) (sym (spelled_words 0 (v ∷ w ∷ x ∷ y ∷ z ∷ []) (a, (b, (c, (d, (e, tt)))))))
+    ∙ digits-spelled 256 (all_bytes (v ∷ w ∷ x ∷ y ∷ z ∷ [])) 20 refl (λ j l. All-get_or (λ b. b < 256) (all_bytes (v ∷ w ∷ x ∷ y ∷ z ∷ [])) j 0 l (all_small (v ∷ w ∷ x ∷ y ∷ z ∷ [])))
+
+word_bits : (i : Inside) → Words i → (j : ℕ) → j < length i.words → get_or i.words j 0 < 4294967296
+word_bits i w j l = All-get_or (λ d. d < 4294967296) i.words j 0 l w.bits
+
+pub spelled_five : (v w x y z : ℕ) →
+    spelled 4294967296 (v ∷ w ∷ x ∷ y ∷ z ∷ []) ≡ (((v * 4294967296 + w) * 4294967296 + x) * 4294967296 + y) * 4294967296 + z
+unfolding spelled_on
+spelled_five v w x y z = omega arith
+
+-- the number of an id has 160 bits
+pub num-bits : (i : Inside) → Words i → num i < 1461501637330902918203684832716283019655932542976
+num-bits i w =
+    let e : num i ≡ (((get_or i.words 0 0 * 4294967296 + get_or i.words 1 0) * 4294967296 + get_or i.words 2 0) * 4294967296 + get_or i.words 3 0) * 4294967296 + get_or i.words 4 0
+    = ap (spelled 4294967296) (five i.words w.five) ∙ spelled_five _ _ _ _ _ in
+    let five_long : length i.words ≡ 5 = w.five in
+    omega (arith, word_bits i w 0 (omega arith), word_bits i w 1 (omega arith), word_bits i w 2 (omega arith), word_bits i w 3 (omega arith), word_bits i w 4 (omega arith))
+
+-- the twenty bytes of an id, as the four bytes of each word are read out
+pub id_bytes_out : (i : Inside) → Words i → (n : ℕ) → num i ≡ n → (a b c d e : List ℕ) →
+    a ≡ bytes_of (get_or i.words 0 0) → b ≡ bytes_of (get_or i.words 1 0) → c ≡ bytes_of (get_or i.words 2 0) → d ≡ bytes_of (get_or i.words 3 0) → e ≡ bytes_of (get_or i.words 4 0)
     → (get_or a 0 0 ∷ get_or a 1 0 ∷ get_or a 2 0 ∷ get_or a 3 0 ∷ get_or b 0 0 ∷ get_or b 1 0 ∷ get_or b 2 0 ∷ get_or b 3 0 ∷ get_or c 0 0 ∷ get_or c 1 0 ∷ get_or c 2 0 ∷ get_or c 3 0 ∷ get_or d 0 0 ∷ get_or d 1 0 ∷ get_or d 2 0 ∷ get_or d 3 0 ∷ get_or e 0 0 ∷ get_or e 1 0 ∷ get_or e 2 0 ∷ get_or e 3 0 ∷ [])
-    ≡ digits 256 20 (num i)
-id_bytes_out i w a b c d e p q r s t = rw (p, q, r, s, t) (sym (id_bytes i w))
+    ≡ digits 256 20 n
+id_bytes_out i w n is a b c d e p q r s t =
+    let l : length i.words ≡ 5 = w.five in
+    let all : digits 256 20 (spelled 4294967296 (get_or i.words 0 0 ∷ get_or i.words 1 0 ∷ get_or i.words 2 0 ∷ get_or i.words 3 0 ∷ get_or i.words 4 0 ∷ []))
+    ≡ all_bytes (get_or i.words 0 0 ∷ get_or i.words 1 0 ∷ get_or i.words 2 0 ∷ get_or i.words 3 0 ∷ get_or i.words 4 0 ∷ [])
+    = id_bytes _ _ _ _ _ (word_bits i w 0 (omega arith)) (word_bits i w 1 (omega arith)) (word_bits i w 2 (omega arith)) (word_bits i w 3 (omega arith)) (word_bits i w 4 (omega arith)) in
+    rw (p, q, r, s, t) (sym all ∙ ap (digits 256 20) (ap (spelled 4294967296) (sym (five i.words l)) ∙ is))

@@ -2,10 +2,12 @@
 use Rattle.std.proofs.Common.{◌≡◌, ℕ, zero, suc, ◌+◌, ◌*◌, ◌/◌, ◌%◌, ◌^◌, ◌<◌, ◌≤◌, Bool, true, false, cond, not, ◌&&◌, eqb, ◌≢◌, List, [], ◌∷◌, ◌++◌, map, length, get_or, set, Some, None, Option, unwrap_or, sym, refl, ap, ◌∙◌, ⊎_elim, arith, length-set, get_or-set_other, get_or-set_same, below_more}
 use Rattle.std.specs.List.{AllByRecursion}
 use Rattle.std.proofs.lemmas.List.{append_assoc, map-append, length-map}
-use Rattle.std.proofs.ByRecursion.{All-append}
+use Rattle.std.proofs.ByRecursion.{All-append, All-get_or, All-map}
 use Rattle.std.proofs.lemmas.Bool.{eqb-true, eq-eqb, cases_lt, and_parts, and_from}
 use Rattle.ancestry.specs.Sets.{every, next, index_of, absent}
-use Rattle.ancestry.specs.Numbers.{num, spelled_on, spelled, digits, letters, letter, is_letter, value, reading, from_hex, hex}
+use Rattle.ancestry.specs.Numbers.{spelled_on, spelled, digits, letters, letter, is_letter, value, reading, from_hex, hex}
+use Rattle.ancestry.specs.Ids.{num}
+use Rattle.ancestry.proofs.Bytes.{num-bits}
 use Rattle.ancestry.specs.Theorems.{HexLaw}
 use Rattle.ancestry.proofs.Spelling.{digits-length, spelled-digits, spelled_shift, spelled_split}
 
@@ -196,10 +198,27 @@ unfolding digits
 small_digits zero n = tt
 small_digits (suc k) n = All-append (λ d. d < 16) (digits 16 k (n / 16)) ((n % 16) ∷ []) (small_digits k (n / 16)) (omega arith, tt)
 
+-- each letter is one byte in UTF-8
+pub length-hex : (n : ℕ) → length (hex n) ≡ 40
+unfolding hex
+length-hex n = length-map (digits 16 40 n) letter ∙ digits-length 16 40 n
+
+letter_ascii : (d : ℕ) → d < 16 → letter d < 128
+unfolding letters
+letter_ascii d l = All-get_or (λ c. c < 128) letters d 0 l (omega arith, (omega arith, (omega arith, (omega arith, (omega arith, (omega arith, (omega arith, (omega arith, (omega arith, (omega arith, (omega arith, (omega arith, (omega arith, (omega arith, (omega arith, (omega arith, tt))))))))))))))))
+
+letters_ascii : (ds : List ℕ) → AllByRecursion (λ d. d < 16) ds → AllByRecursion (λ d. letter d < 128) ds
+letters_ascii [] a = tt
+letters_ascii (d ∷ ds) a = (letter_ascii d a.0, letters_ascii ds a.1)
+
+pub hex_ascii : (n i : ℕ) → i < 40 → get_or (hex n) i 0 < 128
+unfolding hex
+hex_ascii n i l = All-get_or (λ c. c < 128) (hex n) i 0 (let e : length (hex n) ≡ 40 = length-hex n in omega arith) (All-map (λ c. c < 128) letter (digits 16 40 n) (letters_ascii (digits 16 40 n) (small_digits 40 n)))
+
 pub hex_law : HexLaw
 unfolding from_hex hex
 hex_law i w =
     let n : ℕ = num i in
-    let b : n < 1461501637330902918203684832716283019655932542976 = omega arith in
+    let b : n < 1461501637330902918203684832716283019655932542976 = num-bits i w in
     let e : length (map letter (digits 16 40 n)) ≡ 40 = length-map (digits 16 40 n) letter ∙ digits-length 16 40 n in
     rw (eq-eqb (length (map letter (digits 16 40 n))) 40 e) (reading-letters (digits 16 40 n) (small_digits 40 n) ∙ ap Some (spelled-digits 16 40 n (omega arith) b))

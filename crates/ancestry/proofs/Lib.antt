@@ -16,3 +16,5 @@ pub mod Spelling
 pub mod Bytes
 pub mod Letters
 pub mod Readings
+mod Compared
+pub mod Library

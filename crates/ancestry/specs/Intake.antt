@@ -3,8 +3,6 @@ use Rattle.std.specs.Prelude.{◌≡◌, ℕ, ◌<◌, Bool, true, false, cond, 
 use Rattle.ancestry.specs.Sets.{any, absent}
 use Rattle.ancestry.specs.Commits.{Commit, at, place_of}
 use Rattle.ancestry.specs.Keys.{rank}
-use Rattle.ancestry.specs.Numbers.{num}
-use Rattle.ancestry.specs.declared.id.Id.{Id}
 use Rattle.ancestry.specs.declared.refusal.Refusal.{Refusal}
 use Rattle.ancestry.specs.declared.refusal.Refusal.TheVariants.{DateOutOfRange, GenerationTooHigh, TooManyParents, IdHeld, NoSuchParent, GenerationRises, Full, TooManyOthers, WorkspaceShort}
 
@@ -35,10 +33,6 @@ words WorkspaceShort = codes "the workspace is short"
 -- how a refusal is printed
 abbrev pub printed : Refusal → List ℕ
 printed f = codes "refused " ++ (decimal (number f) ++ (codes ": " ++ words f))
-
--- the commit that a call of intake offers
-abbrev pub offered : Id → Option ℕ → ℤ → List ℕ → Commit
-offered i generation date parents = record { id = num i; generation = generation; date = date; parents = parents }
 
 -- dates run from -17,179,869,184 to 17,179,869,183
 unfoldable pub in_range : ℤ → Bool
@@ -77,10 +71,10 @@ refusal room H c =
     first_that (applies room H c)
     (DateOutOfRange ∷ GenerationTooHigh ∷ TooManyParents ∷ IdHeld ∷ NoSuchParent ∷ GenerationRises ∷ Full ∷ [])
 
--- what intake answers: the refusal, or else the commit's place
-abbrev pub placed : Option Refusal → ℕ → Result ℕ Refusal
-placed None place = Ok place
-placed (Some f) place = Err f
+-- the refusal, or else the answer
+abbrev pub unless : {A : Type 0} → Option Refusal → A → Result A Refusal
+unless None a = Ok a
+unless (Some f) a = Err f
 
 -- the list after intake: a commit that is not refused is appended
 abbrev pub grown : Option Refusal → List Commit → Commit → List Commit

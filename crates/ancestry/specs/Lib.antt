@@ -14,3 +14,5 @@ pub mod Intake
 pub mod Theorems
 pub mod Cases
 pub mod Asking
+pub mod Digits
+pub mod Ids

@@ -1,21 +1,7 @@
--- Ids as numbers, and numbers as bytes and letters.
-use Rattle.std.specs.Prelude.{ℕ, zero, suc, ◌+◌, ◌*◌, ◌/◌, ◌%◌, ◌<◌, Bool, cond, not, List, [], ◌∷◌, ◌++◌, map, length, take, drop, Some, None, codes, Option, ◌==◌, slice_index}
+-- Numbers as bytes and letters.
+use Rattle.std.specs.Prelude.{ℕ, zero, suc, ◌+◌, ◌*◌, ◌/◌, ◌%◌, Bool, cond, not, List, [], ◌∷◌, ◌++◌, map, length, take, drop, Some, None, codes, Option, ◌==◌, slice_index}
 use Rattle.std.specs.Option.{unwrap_or}
 use Rattle.ancestry.specs.Sets.{every, index_of, absent}
-use Rattle.ancestry.specs.declared.id.Id.{Id}
-
--- the number of an id: its five words of 32 bits read as one, the most significant first
-abbrev pub num : Id → ℕ
-num i =
-    (((i.first * 4294967296 + i.second) * 4294967296 + i.third) * 4294967296 + i.fourth) * 4294967296 + i.fifth
-
--- each word has 32 bits, as every id that the program holds has
-pub record Words (i : Id) : Type 0 where
-  pub first : i.first < 4294967296
-  pub second : i.second < 4294967296
-  pub third : i.third < 4294967296
-  pub fourth : i.fourth < 4294967296
-  pub fifth : i.fifth < 4294967296
 
 -- the number that n and then the digits spell in a base, the most significant first
 unfoldable pub spelled_on : ℕ → ℕ → List ℕ → ℕ

@@ -10,15 +10,16 @@ use Rattle.ancestry.specs.Naming.{Asked}
 use Rattle.ancestry.specs.Describe.{describe}
 use Rattle.ancestry.specs.Nearest.{trimmed, DatesFall, NamesFit, Nearest}
 use Rattle.ancestry.specs.Intake.{refusal, Lowest}
-use Rattle.ancestry.specs.Numbers.{num, Words, from_hex, hex}
-use Rattle.ancestry.specs.declared.id.Id.{Id}
+use Rattle.ancestry.specs.Numbers.{from_hex, hex}
+use Rattle.ancestry.specs.Ids.{num, Words}
+use Rattle.ancestry.specs.declared.id.Id.TheInside.{Inside}
 
 -- IDS. Two ids with one number are equal, and an id's letters read back as its number.
 abbrev pub IdLaw : Type 0
-IdLaw = (a b : Id) → Words a → Words b → num a ≡ num b → a ≡ b
+IdLaw = (a b : Inside) → Words a → Words b → num a ≡ num b → a ≡ b
 
 abbrev pub HexLaw : Type 0
-HexLaw = (i : Id) → Words i → from_hex (hex (num i)) ≡ Some (num i)
+HexLaw = (i : Inside) → Words i → from_hex (hex (num i)) ≡ Some (num i)
 
 -- PLACES. A place found holds the id; where none is found, no place does.
 abbrev pub PlaceLaw : Type 0

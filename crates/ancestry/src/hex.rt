@@ -1,9 +1,8 @@
-ghost use Rattle.std.specs.Prelude.{◌≡◌, ℕ, ◌+◌, ◌<◌, ◌≤◌, length, IfSome};
-ghost use Rattle.std.specs.Option.{option_map};
-ghost use Rattle.ancestry.specs.Sets.{index_of};
-ghost use Rattle.ancestry.specs.Numbers.{num, letters, reading, part, from_hex, hex};
+ghost use Rattle.std.specs.Prelude.{◌≡◌, ℕ, ◌+◌, ◌<◌, ◌≤◌, length, Some, IfSome, ◌==◌, position};
+ghost use Rattle.ancestry.specs.Numbers.{letters, reading, part, from_hex, hex};
 
 use crate::id::Id;
+use std::fmt;
 
 /// The sixteen letters of hexadecimal digits.
 const LETTERS: [u8; 16] = *b"0123456789abcdef";
@@ -11,7 +10,7 @@ const LETTERS: [u8; 16] = *b"0123456789abcdef";
 impl Id {
     /// The id that forty hexadecimal digits spell, a to f small, or none.
     pub fn from_hex(text: &[u8]) -> Option<Id>
-        ensures { option_map num result ≡ from_hex text.now }
+        ensures { result ≡ from_hex text.now }
     {
         if text.len() != 40 {
             return None;
@@ -22,23 +21,19 @@ impl Id {
         let fourth = word(text, 24)?;
         let fifth = word(text, 32)?;
         Some(Id {
-            first,
-            second,
-            third,
-            fourth,
-            fifth,
+            words: [first, second, third, fourth, fifth],
         })
     }
 
     /// The forty hexadecimal digits of the id, a to f small.
     pub fn to_hex(self) -> [u8; 40]
-        ensures { result ≡ hex (num self) }
+        ensures { result ≡ hex self }
     {
         let bytes = self.to_bytes();
         let mut text = [0; 40];
-        for i in 0..20 {
-            text[2 * i] = LETTERS[(bytes[i] / 16) as usize];
-            text[2 * i + 1] = LETTERS[(bytes[i] % 16) as usize];
+        for (i, byte) in bytes.iter().enumerate() {
+            text[2 * i] = LETTERS[(byte / 16) as usize];
+            text[2 * i + 1] = LETTERS[(byte % 16) as usize];
         }
         text
     }
@@ -64,18 +59,25 @@ fn byte(text: &[u8], at: usize) -> Option<u32>
 {
     let high = digit(text[at])?;
     let low = digit(text[at + 1])?;
-    Some(high * 16 + low)
+    Some((high * 16 + low) as u32)
 }
 
 // The value of a letter, which is its place in the table.
-fn digit(letter: u8) -> Option<u32>
-    ensures value { result ≡ index_of letters letter }
+#[tactic(auto, unfolding(crate::specs::Numbers::letters))]
+fn digit(letter: u8) -> Option<usize>
+    ensures value { result ≡ position (λ l. l == letter) letters }
     ensures small { IfSome result (λ d. d < 16) }
 {
-    for i in 0..16 {
-        if LETTERS[i] == letter {
-            return Some(i as u32);
+    LETTERS.iter().position(|other| *other == letter)
+}
+
+impl fmt::Display for Id {
+    ghost output = { λ i. Some (hex i) };
+
+    fn fmt<W: fmt::Write>(&self, f: &mut fmt::Formatter<W>) -> fmt::Result {
+        for letter in self.to_hex() {
+            f.write_char(char::from(letter))?;
         }
+        Ok(())
     }
-    None
 }

@@ -3,8 +3,10 @@
 
 mod hex;
 mod id;
+mod key;
 mod refusal;
 pub mod theorems;
 
 pub use id::Id;
+pub use key::rank;
 pub use refusal::Refusal;

@@ -1,17 +1,16 @@
 -- How each order is answered over a history, and what it leaves.
-use Rattle.std.specs.Prelude.{◌≡◌, ℕ, List, map, length, ℤ, Some, None, Ok, Err, Option, Result}
+use Rattle.std.specs.Prelude.{◌≡◌, ℕ, List, map, length, ℤ, Ok, Err, Option, Result}
 use Rattle.std.specs.List.{slice_get}
 use Rattle.std.specs.Option.{unwrap_or}
 use Rattle.std.specs.declared.alloc.AllocError.{AllocError}
 use Rattle.ancestry.specs.Commits.{Commit, place_of, parents_of}
-use Rattle.ancestry.specs.Intake.{refusal, placed, grown}
-use Rattle.ancestry.specs.declared.refusal.Refusal.{Refusal}
+use Rattle.ancestry.specs.Intake.{refusal, unless, grown}
 use Rattle.history.specs.Meaning.{Reads}
 use Rattle.history.specs.declared.reader.Entry.{Entry}
 use Rattle.orders.specs.Fields.{Via, place, named}
 use Rattle.orders.specs.Lines.{Said, commit, name, count, capacity, find, read, parent, later}
-use Rattle.answering.specs.declared.carry.Answer.{Answer}
-use Rattle.answering.specs.declared.carry.Answer.TheVariants as answer
+use Rattle.answering.specs.declared.answer.Answer.{Answer}
+use Rattle.answering.specs.declared.answer.Answer.TheVariants as answer
 
 -- the place of a parent that a line names; an id that is not held has a place that no history has
 abbrev pub place_in : List Commit → Via → ℕ
@@ -22,27 +21,15 @@ place_in H (named i) = unwrap_or (place_of H i) 18446744073709551615
 abbrev pub offer_in : List Commit → ℕ → Option ℕ → ℤ → List Via → Commit
 offer_in H i g d ps = record { id = i; generation = g; date = d; parents = map (place_in H) ps }
 
-abbrev pub place_answer : Option ℕ → Answer
-place_answer None = answer.Nothing
-place_answer (Some p) = answer.Place p
-
-abbrev pub entry_answer : Option Entry → Answer
-entry_answer None = answer.Nothing
-entry_answer (Some e) = answer.Commit e
-
-abbrev pub intake_answer : Result ℕ Refusal → Answer
-intake_answer (Ok p) = answer.TakenIn p
-intake_answer (Err f) = answer.Refused f
-
 -- the right answer to what a line says, asked of a history of this capacity that holds H
 abbrev pub Right : ℕ → List Commit → Said → Answer → Type 0
-Right room H (commit i g d ps) a = a ≡ intake_answer (placed (refusal room H (offer_in H i g d ps)) (length H))
+Right room H (commit i g d ps) a = a ≡ answer.Intake (unless (refusal room H (offer_in H i g d ps)) (length H))
 Right room H (name i) a = a ≡ answer.Kept
 Right room H count a = a ≡ answer.Number (length H)
 Right room H capacity a = a ≡ answer.Number room
-Right room H (find i) a = a ≡ place_answer (place_of H i)
-Right room H (read p) a = (e : Option Entry) × Reads H p e × (a ≡ entry_answer e)
-Right room H (parent p n) a = a ≡ place_answer (slice_get (parents_of H p) n)
+Right room H (find i) a = a ≡ answer.Place (place_of H i)
+Right room H (read p) a = (e : Option Entry) × Reads H p e × (a ≡ answer.Commit e)
+Right room H (parent p n) a = a ≡ answer.Place (slice_get (parents_of H p) n)
 Right room H later a = a ≡ answer.NotYet
 
 -- the commits held after it

@@ -2,33 +2,12 @@ ghost use Rattle.std.specs.Prelude.{◌≡◌, ℕ, map, IfOk};
 ghost use Rattle.history.specs.Meaning.{Same};
 ghost use Rattle.orders.specs.Fields.{via};
 ghost use Rattle.orders.specs.Lines.{said};
-ghost use Rattle.answering.specs.Answers.{place_in, place_answer, entry_answer, Answered};
+ghost use Rattle.answering.specs.Answers.{place_in, Answered};
 
-use ancestry::Refusal;
-use history::{Entry, History, Reader};
+use crate::answer::Answer;
+use history::{History, NewCommit, Reader};
 use orders::{Offer, Order, Parent};
 use std::alloc::{AllocError, Global};
-
-/// What an order is answered by.
-#[derive(Clone, Copy)]
-pub enum Answer {
-    /// The commit is taken in, at this place.
-    TakenIn(usize),
-    /// The commit is not taken in.
-    Refused(Refusal),
-    /// The place of a commit.
-    Place(usize),
-    /// There is no such commit or parent.
-    Nothing,
-    /// A number of commits.
-    Number(usize),
-    /// What is told of a commit.
-    Commit(Entry),
-    /// The name is kept.
-    Kept,
-    /// The question is not answered yet.
-    NotYet,
-}
 
 /// Does what a line asks for, and answers it.
 pub fn carry_out<H: History>(
@@ -44,9 +23,9 @@ pub fn carry_out<H: History>(
         Order::Name(_) => Ok(Answer::Kept),
         Order::Count => Ok(Answer::Number(history.count())),
         Order::Capacity => Ok(Answer::Number(history.capacity())),
-        Order::Find(id) => Ok(placed(history.find(id))),
-        Order::Read(place) => Ok(told(history.read(place))),
-        Order::Parent(place, nth) => Ok(placed(history.parent(place, nth))),
+        Order::Find(id) => Ok(Answer::Place(history.find(id))),
+        Order::Read(place) => Ok(Answer::Commit(history.read(place))),
+        Order::Parent(place, nth) => Ok(Answer::Place(history.parent(place, nth))),
         Order::Later => Ok(Answer::NotYet),
     }
 }
@@ -57,10 +36,13 @@ fn take_in<H: History>(heap: Global, history: &mut H, offer: Offer) -> Result<An
     ensures answer { Answered H.Reader.whole H.Reader.commits H.Reader.room history.old (said (Order.Commit offer)) result history.new }
 {
     let places = parent_places(heap, history, offer.parents.as_slice())?;
-    match history.intake(offer.id, offer.generation, offer.date, places.as_slice()) {
-        Ok(place) => Ok(Answer::TakenIn(place)),
-        Err(refusal) => Ok(Answer::Refused(refusal)),
-    }
+    let commit = NewCommit {
+        id: offer.id,
+        generation: offer.generation,
+        date: offer.date,
+        parents: places.as_slice(),
+    };
+    Ok(Answer::Intake(history.intake(&commit)))
 }
 
 // The places of the parents that a line names.
@@ -91,23 +73,5 @@ pub fn parent_place<H: Reader>(history: &mut H, parent: Parent) -> usize
     match parent {
         Parent::Place(place) => place,
         Parent::Named(id) => history.find(id).unwrap_or(usize::MAX),
-    }
-}
-
-fn placed(place: Option<usize>) -> Answer
-    ensures { result ≡ place_answer place }
-{
-    match place {
-        Some(place) => Answer::Place(place),
-        None => Answer::Nothing,
-    }
-}
-
-fn told(entry: Option<Entry>) -> Answer
-    ensures { result ≡ entry_answer entry }
-{
-    match entry {
-        Some(entry) => Answer::Commit(entry),
-        None => Answer::Nothing,
     }
 }

@@ -1,6 +1,8 @@
 // Orders carried out over a history, and what they are answered by.
 #![tactic(auto)]
 
+mod answer;
 mod carry;
 
-pub use carry::{Answer, carry_out, parent_place};
+pub use answer::Answer;
+pub use carry::{carry_out, parent_place};

@@ -5,7 +5,7 @@ use bundle::run;
 use history::Rows;
 use std::io::{BufWriter, Read, Write};
 use std::process::ExitCode;
-use std::{env, fs, io};
+use std::{env, fmt, fs, io};
 
 const USAGE: &str = "\
 usage: ask [FILE]
@@ -33,19 +33,47 @@ The status is 1 if a line was malformed or if FILE cannot be read.
 ";
 
 // What the arguments ask for.
-enum Choice<'a> {
+enum Source<'a> {
     Help,
     Input,
     File(&'a str),
-    Unknown(&'a str),
-    TooMany,
+}
+
+// Why there is no answer.
+#[derive(Drop)]
+enum Failure<'a> {
+    UnknownOption(&'a str),
+    TooManyFiles,
+    CannotRead(&'a str, io::Error),
+    Io(io::Error),
+}
+
+impl fmt::Display for Failure<'_> {
+    fn fmt<W: fmt::Write>(&self, f: &mut fmt::Formatter<W>) -> fmt::Result {
+        match self {
+            Failure::UnknownOption(option) => write!(
+                f,
+                "unknown option {option}; ask --help says what there is"
+            ),
+            Failure::TooManyFiles => f.write_str(
+                "more than one file; ask --help says what there is",
+            ),
+            Failure::CannotRead(name, error) => write!(f, "cannot read {name}: {error}"),
+            Failure::Io(error) => write!(f, "{error}"),
+        }
+    }
+}
+
+impl From<io::Error> for Failure<'_> {
+    fn from(error: io::Error) -> Self {
+        Failure::Io(error)
+    }
 }
 
 // Where the status is 1, the program has said why.
 fn main(rt: HostRuntime) -> ExitCode {
     match start(&rt) {
-        Ok(true) => ExitCode::SUCCESS,
-        Ok(false) => ExitCode::FAILURE,
+        Ok(status) => status,
         Err(error) => {
             let _ = eprintln!(rt; "ask: {error}");
             ExitCode::FAILURE
@@ -53,59 +81,57 @@ fn main(rt: HostRuntime) -> ExitCode {
     }
 }
 
-// Whether all went well.
-fn start(rt: &HostRuntime) -> io::Result<bool> {
+fn start(rt: &HostRuntime) -> io::Result<ExitCode> {
     let args: Vec<String> = env::args(rt)?.skip(1).collect(rt.alloc())?;
-    match choose(args.as_slice()) {
-        Choice::Help => {
-            rt.print(USAGE)?;
-            Ok(true)
+    match answer(rt, args.as_slice()) {
+        Ok(status) => Ok(status),
+        Err(failure) => {
+            eprintln!(rt; "ask: {failure}")?;
+            Ok(ExitCode::FAILURE)
         }
-        Choice::Input => {
+    }
+}
+
+// Does what the arguments ask for.
+fn answer<'a>(rt: &HostRuntime, args: &'a [String]) -> Result<ExitCode, Failure<'a>> {
+    match choose(args)? {
+        Source::Help => {
+            rt.print(USAGE)?;
+            Ok(ExitCode::SUCCESS)
+        }
+        Source::Input => {
             let mut text = Vec::new(rt.alloc());
             rt.stdin().read_to_end(&mut text)?;
-            reply(rt, text.as_slice())
+            Ok(reply(rt, text.as_slice())?)
         }
-        Choice::File(name) => match fs::read(rt, name) {
-            Ok(text) => reply(rt, text.as_slice()),
-            Err(error) => {
-                eprintln!(rt; "ask: cannot read {name}: {error}")?;
-                Ok(false)
-            }
+        Source::File(name) => {
+            let text = fs::read(rt, name).map_err(|error| Failure::CannotRead(name, error))?;
+            Ok(reply(rt, text.as_slice())?)
+        }
+    }
+}
+
+fn choose(args: &[String]) -> Result<Source<'_>, Failure<'_>> {
+    match args {
+        [] => Ok(Source::Input),
+        [only] => match only.as_str() {
+            "--help" => Ok(Source::Help),
+            option if option.starts_with('-') => Err(Failure::UnknownOption(option)),
+            name => Ok(Source::File(name)),
         },
-        Choice::Unknown(option) => {
-            eprintln!(rt; "ask: unknown option {option}; ask --help says what there is")?;
-            Ok(false)
-        }
-        Choice::TooMany => {
-            eprintln!(rt; "ask: more than one file; ask --help says what there is")?;
-            Ok(false)
-        }
+        _ => Err(Failure::TooManyFiles),
     }
 }
 
-fn choose(args: &[String]) -> Choice<'_> {
-    if args.is_empty() {
-        return Choice::Input;
-    }
-    if args.len() > 1 {
-        return Choice::TooMany;
-    }
-    let first = args[0].as_str();
-    if first == "--help" {
-        Choice::Help
-    } else if first.starts_with('-') {
-        Choice::Unknown(first)
-    } else {
-        Choice::File(first)
-    }
-}
-
-// Answers the bundle on standard output; whether no line was malformed.
-fn reply(rt: &HostRuntime, text: &[u8]) -> io::Result<bool> {
+// Answers the bundle on standard output. The status is 1 where a line was malformed.
+fn reply(rt: &HostRuntime, text: &[u8]) -> io::Result<ExitCode> {
     let mut history = Rows::open();
     let mut out = BufWriter::new(rt.alloc(), rt.stdout())?;
     let tally = run(rt.alloc(), &mut history, text, &mut out)?;
     out.flush()?;
-    Ok(tally.malformed == 0)
+    Ok(if tally.malformed == 0 {
+        ExitCode::SUCCESS
+    } else {
+        ExitCode::FAILURE
+    })
 }

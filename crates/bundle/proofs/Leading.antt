@@ -1,11 +1,12 @@
 -- A bundle, one line after another.
-use Rattle.std.proofs.Common.{◌≡◌, ℕ, true, false, List, [], ◌∷◌, sym, refl, subst, inl, inr}
+use Rattle.std.proofs.Common.{◌≡◌, ℕ, true, false, List, [], ◌∷◌, Result, sym, refl, subst, inl, inr}
 use Rattle.ancestry.specs.Commits.{Commit}
 use Rattle.lines.specs.Bytes.{trimmed, passed, fields_of}
 use Rattle.orders.specs.Lines.{line}
 use Rattle.bundle.specs.Replies.{Fits}
 use Rattle.bundle.specs.Runs.{Ran, counted}
-use Rattle.bundle.specs.declared.reply.Reply.{Reply}
+use Rattle.orders.specs.declared.expected.Malformed.{Malformed}
+use Rattle.answering.specs.declared.answer.Answer.{Answer}
 use Rattle.bundle.specs.declared.tally.Tally.{Tally}
 
 -- what is left to run leads where the whole leads
@@ -18,7 +19,7 @@ leads_passed room H t ls K s all l first e p leads H' t' ran =
     leads H' t' (subst (λ (ks : List (List ℕ)). Ran room K s ks H' t') (sym e) (inl (p, ran)))
 
 pub leads_replied : (room : ℕ) (H : List Commit) (t : Tally) (ls : List (List ℕ)) (K : List Commit) (s : Tally) (all l : List (List ℕ)) (first : List ℕ)
-    (r : Reply) (K₁ : List Commit) →
+    (r : Result Answer Malformed) (K₁ : List Commit) →
     all ≡ first ∷ l → passed (trimmed first) ≡ false → Fits room K (line (fields_of (trimmed first))) r K₁ →
     Leads room H t ls K s all → Leads room H t ls K₁ (counted r s) l
 leads_replied room H t ls K s all l first r K₁ e p fits leads H' t' ran =

@@ -2,26 +2,25 @@
 use Rattle.std.specs.Prelude.{◌≡◌, ℕ, List, Ok, Err, Result}
 use Rattle.std.specs.declared.alloc.AllocError.{AllocError}
 use Rattle.ancestry.specs.Commits.{Commit}
+use Rattle.answering.specs.declared.answer.Answer.{Answer}
 use Rattle.orders.specs.Lines.{Said}
 use Rattle.answering.specs.Answers.{Right, after}
 use Rattle.orders.specs.declared.expected.Malformed.{Malformed}
-use Rattle.bundle.specs.declared.reply.Reply.{Reply}
-use Rattle.bundle.specs.declared.reply.Reply.TheVariants as reply
 
 -- the reply to a line, by what it says or its first fault, and the commits held after it: a malformed line changes nothing
-abbrev pub Fits : ℕ → List Commit → Result Said Malformed → Reply → List Commit → Type 0
-Fits room H (Ok s) (reply.Answer a) H' = Right room H s a × (H' ≡ after room H s)
-Fits room H (Ok s) (reply.Malformed m) H' = ⊥
-Fits room H (Err m) (reply.Answer a) H' = ⊥
-Fits room H (Err m) (reply.Malformed n) H' = (n ≡ m) × (H' ≡ H)
+abbrev pub Fits : ℕ → List Commit → Result Said Malformed → Result Answer Malformed → List Commit → Type 0
+Fits room H (Ok s) (Ok a) H' = Right room H s a × (H' ≡ after room H s)
+Fits room H (Ok s) (Err m) H' = ⊥
+Fits room H (Err m) (Ok a) H' = ⊥
+Fits room H (Err m) (Err n) H' = (n ≡ m) × (H' ≡ H)
 
 -- where memory is short, nothing is taken in
-abbrev pub Replies : ℕ → List Commit → Result Said Malformed → Result Reply AllocError → List Commit → Type 0
+abbrev pub Replies : ℕ → List Commit → Result Said Malformed → Result (Result Answer Malformed) AllocError → List Commit → Type 0
 Replies room H q (Ok r) H' = Fits room H q r H'
 Replies room H q (Err e) H' = H' ≡ H
 
 -- a line was replied to: the history is whole after it, with the same capacity
-pub record Replied {S : Type 0} (whole : S → Type 0) (commits : S → List Commit) (room : S → ℕ) (before : S) (q : Result Said Malformed) (r : Result Reply AllocError) (after : S) : Type 0 where
+pub record Replied {S : Type 0} (whole : S → Type 0) (commits : S → List Commit) (room : S → ℕ) (before : S) (q : Result Said Malformed) (r : Result (Result Answer Malformed) AllocError) (after : S) : Type 0 where
   pub still : whole after
   pub capacity : room after ≡ room before
   pub done : Replies (room before) (commits before) q r (commits after)

@@ -1,13 +1,12 @@
 -- A whole bundle: its lines are replied to one after another, and counted by their replies.
-use Rattle.std.specs.Prelude.{◌≡◌, ℕ, ◌+◌, min, true, false, ◌⊎◌, List, [], ◌∷◌}
+use Rattle.std.specs.Prelude.{◌≡◌, ℕ, ◌+◌, min, true, false, ◌⊎◌, List, [], ◌∷◌, Ok, Err, Result}
 use Rattle.ancestry.specs.Commits.{Commit}
 use Rattle.lines.specs.Bytes.{trimmed, passed, fields_of}
 use Rattle.orders.specs.Lines.{line}
-use Rattle.answering.specs.declared.carry.Answer.{Answer}
-use Rattle.answering.specs.declared.carry.Answer.TheVariants as answer
+use Rattle.orders.specs.declared.expected.Malformed.{Malformed}
+use Rattle.answering.specs.declared.answer.Answer.{Answer}
+use Rattle.answering.specs.declared.answer.Answer.TheVariants as answer
 use Rattle.bundle.specs.Replies.{Fits}
-use Rattle.bundle.specs.declared.reply.Reply.{Reply}
-use Rattle.bundle.specs.declared.reply.Reply.TheVariants as reply
 use Rattle.bundle.specs.declared.tally.Tally.{Tally}
 
 abbrev pub no_lines : Tally
@@ -29,20 +28,16 @@ one_answered t = record { taken_in = t.taken_in; refused = t.refused; answered =
 abbrev pub one_malformed : Tally → Tally
 one_malformed t = record { taken_in = t.taken_in; refused = t.refused; answered = t.answered; malformed = more t.malformed }
 
-abbrev pub counted_answer : Answer → Tally → Tally
-counted_answer (answer.TakenIn p) t = one_taken_in t
-counted_answer (answer.Refused f) t = one_refused t
-counted_answer (answer.Place p) t = one_answered t
-counted_answer answer.Nothing t = one_answered t
-counted_answer (answer.Number n) t = one_answered t
-counted_answer (answer.Commit e) t = one_answered t
-counted_answer answer.Kept t = one_answered t
-counted_answer answer.NotYet t = one_answered t
-
 -- the tally with one more line
-abbrev pub counted : Reply → Tally → Tally
-counted (reply.Answer a) t = counted_answer a t
-counted (reply.Malformed m) t = one_malformed t
+abbrev pub counted : Result Answer Malformed → Tally → Tally
+counted (Ok (answer.Intake (Ok p))) t = one_taken_in t
+counted (Ok (answer.Intake (Err f))) t = one_refused t
+counted (Ok (answer.Place p)) t = one_answered t
+counted (Ok (answer.Number n)) t = one_answered t
+counted (Ok (answer.Commit e)) t = one_answered t
+counted (Ok answer.Kept) t = one_answered t
+counted (Ok answer.NotYet) t = one_answered t
+counted (Err m) t = one_malformed t
 
 -- the lines take the list H and the tally t to the list H' and the tally t': a line that says nothing is passed over, any
 -- other gets the reply that fits it
@@ -51,4 +46,4 @@ Ran room H t [] H' t' = (H' ≡ H) × (t' ≡ t)
 Ran room H t (l ∷ ls) H' t' =
     ((passed (trimmed l) ≡ true) × Ran room H t ls H' t')
     ⊎ ((passed (trimmed l) ≡ false)
-    × ((r : Reply) × (K : List Commit) × Fits room H (line (fields_of (trimmed l))) r K × Ran room K (counted r t) ls H' t'))
+    × ((r : Result Answer Malformed) × (K : List Commit) × Fits room H (line (fields_of (trimmed l))) r K × Ran room K (counted r t) ls H' t'))

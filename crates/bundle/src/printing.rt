@@ -1,6 +1,4 @@
 use crate::reply::Reply;
-use answering::Answer;
-use history::Entry;
 use lines::nth_field;
 use orders::Malformed;
 use std::io;
@@ -14,49 +12,21 @@ pub(crate) fn print<W: Write>(
     out: &mut W,
     line: &[u8],
     fields: &[&[u8]],
-    reply: Reply,
+    reply: &Reply,
 ) -> io::Result<()> {
     out.write_all(line)?;
     out.write_all(b" -> ")?;
     match reply {
-        Reply::Answer(answer) => print_answer(out, answer)?,
-        Reply::Malformed(malformed) => print_malformed(
-            out,
-            malformed,
-            nth_field(fields, malformed.field),
-        )?,
+        Ok(answer) => write!(out, "{answer}")?,
+        Err(malformed) => print_malformed(out, malformed, nth_field(fields, malformed.field))?,
     }
     out.write_all(b"\n")
 }
 
-fn print_answer<W: Write>(out: &mut W, answer: Answer) -> io::Result<()> {
-    match answer {
-        Answer::TakenIn(place) => write!(out, "place {place}"),
-        Answer::Refused(refusal) => write!(out, "{refusal}"),
-        Answer::Place(place) => write!(out, "place {place}"),
-        Answer::Nothing => out.write_all(b"none"),
-        Answer::Number(number) => write!(out, "{number}"),
-        Answer::Commit(entry) => print_entry(out, entry),
-        Answer::Kept => out.write_all(b"kept"),
-        Answer::NotYet => out.write_all(b"not yet"),
-    }
-}
-
-// `ID GENERATION DATE PARENTS`
-fn print_entry<W: Write>(out: &mut W, entry: Entry) -> io::Result<()> {
-    out.write_all(&entry.id.to_hex())?;
-    match entry.generation {
-        Some(generation) => write!(out, " {generation}")?,
-        None => out.write_all(b" -")?,
-    }
-    let date = entry.date;
-    let parents = entry.parents;
-    write!(out, " {date} {parents}")
-}
-
+// What was found is bytes that need not be text, so the message is written, and not a `Display` of the fault.
 fn print_malformed<W: Write>(
     out: &mut W,
-    malformed: Malformed,
+    malformed: &Malformed,
     found: Option<&[u8]>,
 ) -> io::Result<()> {
     let field = malformed.field;

@@ -7,14 +7,8 @@ use history::History;
 use orders::{Fault, Malformed, parse};
 use std::alloc::{AllocError, Global};
 
-/// What a line is replied to with.
-#[derive(Clone, Copy)]
-pub enum Reply {
-    /// The answer to what it asks for.
-    Answer(Answer),
-    /// Why it asks for nothing.
-    Malformed(Malformed),
-}
+/// What a line is replied to with: the answer to what it asks for, or why it asks for nothing.
+pub(crate) type Reply = Result<Answer, Malformed>;
 
 /// Replies to one line, given by its fields. A malformed line changes nothing.
 pub(crate) fn respond<H: History>(
@@ -26,8 +20,8 @@ pub(crate) fn respond<H: History>(
     ensures answer { Replied H.Reader.whole H.Reader.commits H.Reader.room history.old (line (texts fields.now)) result history.new }
 {
     match parse(heap, fields) {
-        Ok(order) => Ok(Reply::Answer(carry_out(heap, history, order)?)),
-        Err(Fault::Line(malformed)) => Ok(Reply::Malformed(malformed)),
+        Ok(order) => Ok(Ok(carry_out(heap, history, order)?)),
+        Err(Fault::Line(malformed)) => Ok(Err(malformed)),
         Err(Fault::Memory) => Err(AllocError),
     }
 }

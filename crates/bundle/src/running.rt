@@ -22,7 +22,7 @@ pub fn run<H: History, W: Write>(
     ensures whole { H.Reader.whole history.new }
     ensures answer { IfOk result (λ t. Ran (H.Reader.room history.old) (H.Reader.commits history.old) no_lines (lines_of text.now) (H.Reader.commits history.new) t) }
 {
-    let mut tally = Tally::new();
+    let mut tally = Tally::default();
     let mut rest = text;
     while !rest.is_empty() {
         let (line, after) = next_line(rest);
@@ -30,20 +30,11 @@ pub fn run<H: History, W: Write>(
         if !is_passed_over(line) {
             let fields = fields(heap, line)?;
             let reply = respond(heap, history, fields.as_slice())?;
-            tally.count(reply);
-            print(out, line, fields.as_slice(), reply)?;
+            tally.count(&reply);
+            print(out, line, fields.as_slice(), &reply)?;
         }
         rest = after;
     }
-    let Tally {
-        taken_in,
-        refused,
-        answered,
-        malformed,
-    } = tally;
-    writeln!(
-        out,
-        "# {taken_in} commits taken in, {refused} refused, {answered} questions answered, {malformed} malformed"
-    )?;
+    writeln!(out, "{tally}")?;
     Ok(tally)
 }

@@ -1,3 +1,3 @@
 pub mod Sames
-pub mod Listed
 pub mod Verdicts
+pub mod Listed

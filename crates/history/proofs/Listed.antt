@@ -1,68 +1,52 @@
 -- A table's list of commits by place.
-use Rattle.std.proofs.Common.{◌≡◌, ℕ, zero, suc, ◌+◌, ◌<◌, ◌≤◌, List, [], ◌∷◌, ◌++◌, map, length, get_or, take, set, replicate, Some, None, sym, ap, ◌∙◌, arith}
-use Rattle.std.specs.List.{slice_get, AllByRecursion}
-use Rattle.std.proofs.lemmas.List.{length-map, length-take-le, length-set, get_or-map, get_or-take, take_more_set, map_push}
-use Rattle.std.proofs.ByRecursion.{All-get_or, All-set}
+use Rattle.std.proofs.Common.{◌≡◌, ℕ, ◌<◌, ◌≤◌, true, false, List, [], ◌∷◌, map, length, get_or, Some, None, Option, refl, sym, ap, ◌∙◌, eqb, ltb, cond, arith}
+use Rattle.std.specs.List.{slice_get, position, position_or_len}
+use Rattle.std.proofs.lemmas.List.{get_or-map, length-map}
 use Rattle.std.proofs.lemmas.Option.{slice_get-get_or, slice_get_past}
+use Rattle.std.specs.Option.{is_some, IfSome, option_copied}
+use Rattle.std.specs.Borrow.{Bor}
+use Rattle.std.proofs.lemmas.Bool.{ltb-true, ltb-false}
+use Rattle.ancestry.specs.Sets.{next}
+use Rattle.ancestry.specs.Commits.{Commit, nobody, at, parents_of, place_of}
 use Rattle.ancestry.proofs.Reach.{past}
-use Rattle.ancestry.specs.Commits.{Commit, nobody, at, parents_of}
-use Rattle.history.specs.Tables.{commit_of, listed, Neat, Tidy, blank}
+use Rattle.ancestry.proofs.Library.{first}
+use Rattle.history.specs.Tables.{commit_of, listed}
 use Rattle.history.specs.declared.table.Row.{Row}
 use Rattle.history.specs.declared.table.Table.{Table}
 
-pub all_replicate : {X : Type 0} (P : X → Type 0) (n : ℕ) (x : X) → P x → AllByRecursion P (replicate n x)
-all_replicate P zero x h = tt
-all_replicate P (suc n) x h = (h, all_replicate P n x h)
+pub listed_at : (rows : List Row) (p : ℕ) (d : Row) → p < length rows → at (map commit_of rows) p ≡ commit_of (get_or rows p d)
+unfolding at
+listed_at rows p d l = get_or-map commit_of rows p d nobody l
 
-module _ {N : ℕ} (t : Table N) (tidy : Tidy t) where
-  long : t.len ≤ length t.rows
-  long = omega (arith, tidy.within, tidy.filled)
+-- the first row with an id is at the id's place
+pub position_place_of : (rows : List Row) (i : ℕ) → position (λ r. eqb r.id i) rows ≡ place_of (map commit_of rows) i
+unfolding place_of
+position_place_of [] i = refl
+position_place_of (r ∷ rows) i =
+    first (position_or_len (λ s. eqb s.id i) rows) (length rows) (eqb r.id i) ∙ ap (λ (o : Option ℕ). cond (eqb r.id i) (Some 0) (next o)) (position_place_of rows i)
 
-  pub listed_length : length (listed t) ≡ t.len
-  listed_length = length-map (take t.len t.rows) commit_of ∙ length-take-le t.len t.rows long
+-- what a lookup of the rows finds at a place
+module _ {N : ℕ} (t : Table N) (rows : List Row) (p : ℕ) (same : rows ≡ t.rows.items) where
+  pub inside : true ≡ ltb p (length rows) → p < length (listed t)
+  inside e =
+      let l : p < length rows = ltb-true p (length rows) (sym e) in
+      let n : length (listed t) ≡ length rows = length-map t.rows.items commit_of ∙ ap length (sym same) in
+      omega arith
 
-  pub listed_at : (p : ℕ) (d : Row) → p < t.len → at (listed t) p ≡ commit_of (get_or t.rows p d)
-  unfolding at
-  listed_at p d h =
-      let l : p < length (take t.len t.rows) = omega (arith, length-take-le t.len t.rows long) in
-      get_or-map commit_of (take t.len t.rows) p d nobody l ∙ ap commit_of (get_or-take t.len t.rows p d h)
+  pub found_at : (r : Row) → true ≡ ltb p (length rows) → r ≡ get_or rows p r → at (listed t) p ≡ commit_of r
+  found_at r e is =
+      let l : p < length rows = ltb-true p (length rows) (sym e) in
+      ap (λ (rs : List Row). at (map commit_of rs) p) (sym same) ∙ listed_at rows p r l ∙ ap commit_of (sym is)
 
-  pub neat_at : (p : ℕ) (d : Row) → p < t.len → Neat (get_or t.rows p d)
-  neat_at p d h = All-get_or Neat t.rows p d (omega (arith, tidy.within, tidy.filled)) tidy.neat
+  pub nothing_at : (n : ℕ) → false ≡ ltb p (length rows) → None ≡ slice_get (parents_of (listed t) p) n
+  nothing_at n e =
+      let l : length rows ≤ p = ltb-false p (length rows) (sym e) in
+      let m : length (listed t) ≡ length rows = length-map t.rows.items commit_of ∙ ap length (sym same) in
+      sym (ap (λ (d : Commit). slice_get d.parents n) (past (listed t) p (omega arith)))
 
-  own : (p : ℕ) → p < t.len → length (take (get_or t.rows p blank).count (get_or t.rows p blank).parents) ≡ (get_or t.rows p blank).count
-  own p h =
-      let s : Neat (get_or t.rows p blank) = neat_at p blank h in
-      length-take-le _ _ (omega (arith, s.few, s.sixteen))
-
-  parents_at : (p : ℕ) → p < t.len → parents_of (listed t) p ≡ take (get_or t.rows p blank).count (get_or t.rows p blank).parents
-  parents_at p h = ap (λ (d : Commit). d.parents) (listed_at p blank h)
-
-  pub parents_count : (p : ℕ) → p < t.len → (get_or t.rows p blank).count ≡ length (parents_of (listed t) p)
-  parents_count p h = sym (ap length (parents_at p h) ∙ own p h)
-
-  pub parent_past : (p n : ℕ) → t.len ≤ p → None ≡ slice_get (parents_of (listed t) p) n
-  parent_past p n h = sym (ap (λ (d : Commit). slice_get d.parents n) (past (listed t) p (omega (arith, listed_length))))
-
-  pub parent_none : (p n : ℕ) → p < t.len → (get_or t.rows p blank).count ≤ n → None ≡ slice_get (parents_of (listed t) p) n
-  parent_none p n h k = sym (ap (λ (ps : List ℕ). slice_get ps n) (parents_at p h) ∙ slice_get_past _ n (omega (arith, own p h, k)))
-
-  pub parent_some : (p n : ℕ) → p < t.len → n < (get_or t.rows p blank).count → Some (get_or (get_or t.rows p blank).parents n 0) ≡ slice_get (parents_of (listed t) p) n
-  parent_some p n h k = sym (ap (λ (ps : List ℕ). slice_get ps n) (parents_at p h) ∙ slice_get-get_or _ n 0 (omega (arith, own p h, k))
-      ∙ ap Some (get_or-take (get_or t.rows p blank).count (get_or t.rows p blank).parents n 0 k))
-
-  abbrev pushed : Row → Table N
-  pushed r = record { len = t.len + 1; rows = set t.rows t.len r }
-
-  module _ (r : Row) (neat : Neat r) (room : t.len < N) where
-    pub tidy_push : Tidy (pushed r)
-    tidy_push = record {
-      within = omega arith;
-      filled = length-set t.rows t.len r ∙ tidy.filled;
-      neat = All-set Neat t.rows t.len r neat tidy.neat;
-    }
-
-    pub listed_push : listed (pushed r) ≡ listed t ++ commit_of r ∷ []
-    listed_push =
-        ap (map commit_of) (take_more_set t.rows t.len r (omega (arith, tidy.filled)))
-        ∙ map_push commit_of (take t.len t.rows) r
+-- a number looked up and copied
+pub copied_get : (o : Option (Bor ℕ)) (xs ys : List ℕ) (n : ℕ) → ys ≡ xs → is_some o ≡ ltb n (length ys) → IfSome o (λ x. x.now ≡ get_or ys n x.now) → option_copied o ≡ slice_get xs n
+copied_get None xs ys n e l v = sym (slice_get_past xs n (let k : length ys ≤ n = ltb-false n (length ys) (sym l) in let m : length ys ≡ length xs = ap length e in omega arith))
+copied_get (Some x) xs ys n e l v =
+    let k : n < length ys = ltb-true n (length ys) (sym l) in
+    ap Some v ∙ sym (slice_get-get_or ys n x.now k) ∙ ap (λ (zs : List ℕ). slice_get zs n) e

@@ -1,13 +1,13 @@
 -- The tests of what refuses a commit.
-use Rattle.std.proofs.Common.{◌≡◌, ℕ, zero, suc, ◌+◌, ◌<◌, ◌≤◌, Bool, true, false, not, ◌&&◌, ◌||◌, eqb, ltb, leb, List, [], ◌∷◌, ◌++◌, length, get_or, take, ℤ, is_some, Some, None, Option, sym, refl, ap, ◌∙◌, arith}
+use Rattle.std.proofs.Common.{◌≡◌, ℕ, zero, suc, ◌+◌, ◌<◌, ◌≤◌, Bool, true, false, not, ◌&&◌, ◌||◌, eqb, ltb, leb, List, [], ◌∷◌, ◌++◌, length, get_or, take, ℤ, is_some, Some, None, Ok, Option, Result, sym, refl, ap, ◌∙◌, ⊎_elim, arith}
+use Rattle.std.proofs.Math.Nat.{eq-or-lt_of_le}
 use Rattle.std.proofs.lemmas.List.{take_more}
 use Rattle.std.proofs.lemmas.Bool.{lt-ltb, le-ltb}
 use Rattle.ancestry.specs.Sets.{any, absent}
 use Rattle.ancestry.specs.Commits.{Commit, at, place_of}
 use Rattle.ancestry.specs.Keys.{rank}
-use Rattle.ancestry.specs.Intake.{offered, in_range, too_high, exceeds, applies, refusal}
-use Rattle.ancestry.specs.Numbers.{num}
-use Rattle.ancestry.specs.declared.id.Id.{Id}
+use Rattle.ancestry.specs.Intake.{in_range, too_high, exceeds, applies, refusal, unless}
+use Rattle.ancestry.specs.declared.refusal.Refusal.{Refusal}
 use Rattle.ancestry.proofs.Intakes.{pick, refusal-pick}
 use Rattle.history.specs.Meaning.{Reads}
 use Rattle.history.specs.declared.reader.Entry.{Entry}
@@ -58,14 +58,23 @@ unfolding any
 any-nil t = refl
 
 -- the refusal by its seven tests
-pub by_tests : (room : ℕ) (H : List Commit) (i : Id) (g : Option ℕ) (z : ℤ) (ps : List ℕ) (date high many held parent rises full : Bool)
-    → in_range z ≡ not date → too_high g ≡ high → ltb 16 (length ps) ≡ many → not (absent (place_of H (num i))) ≡ held
+pub by_tests : (room : ℕ) (H : List Commit) (i : ℕ) (g : Option ℕ) (z : ℤ) (ps : List ℕ) (date high many held parent rises full : Bool)
+    → in_range z ≡ not date → too_high g ≡ high → ltb 16 (length ps) ≡ many → not (absent (place_of H i)) ≡ held
     → any (λ p. leb (length H) p) ps ≡ parent → any (exceeds H (rank g)) ps ≡ rises → eqb (length H) room ≡ full
-    → pick date high many held parent rises full ≡ refusal room H (offered i g z ps)
+    → pick date high many held parent rises full ≡ refusal room H (record { id = i; generation = g; date = z; parents = ps })
 unfolding applies
 by_tests room H i g z ps date high many held parent rises full p q r s t u v =
-    sym (refusal-pick room H (offered i g z ps) date high many held parent rises full (ap not p ∙ twice date) q r s t u v)
+    sym (refusal-pick room H (record { id = i; generation = g; date = z; parents = ps }) date high many held parent rises full (ap not p ∙ twice date) q r s t u v)
   where
     twice : (b : Bool) → not (not b) ≡ b
     twice true = refl
     twice false = refl
+
+-- a commit that is admitted is not refused
+pub admitted : (o : Option Refusal) → ◌≡◌ {A = Result (Unit {0}) Refusal} (Ok tt) (unless o tt) → o ≡ None
+admitted None e = refl
+admitted (Some f) e = cc
+
+-- what is not full has room, and so has what is as long
+pub room_left : (n m k : ℕ) → m ≡ n → n ≤ k → (n ≡ k → ⊥) → m < k
+room_left n m k e l h = ⊎_elim (λ (f : n ≡ k). absurd (h f)) (λ (f : n < k). omega arith) (eq-or-lt_of_le l)

@@ -8,7 +8,7 @@ mod table;
 mod verdict;
 
 pub use ancestry::{Id, Refusal};
-pub use grow::History;
+pub use grow::{History, NewCommit};
 pub use reader::{Entry, Reader};
 pub use rows::Rows;
-pub use verdict::refuses;
+pub use verdict::admits;

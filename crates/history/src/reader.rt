@@ -2,10 +2,10 @@ ghost use Rattle.std.specs.Prelude.{◌≡◌, ℕ, List, length};
 ghost use Rattle.std.specs.List.{slice_get};
 ghost use Rattle.ancestry.specs.Commits.{Commit, place_of, parents_of};
 ghost use Rattle.ancestry.specs.Lawful.{Laws};
-ghost use Rattle.ancestry.specs.Numbers.{num};
 ghost use Rattle.history.specs.Meaning.{Same, Reads};
 
 use ancestry::Id;
+use std::fmt;
 
 /// What `read` tells of a commit.
 #[derive(Clone, Copy, PartialEq, Eq, Debug)]
@@ -52,7 +52,7 @@ pub trait Reader {
     fn find(&mut self, id: Id) -> Option<usize>
         requires { whole self.old }
         ensures same { Same whole commits room self.old self.new }
-        ensures answer { result ≡ place_of (commits self.old) (num id) };
+        ensures answer { result ≡ place_of (commits self.old) id };
 
     /// The commit at the place; beyond the list none.
     fn read(&mut self, place: usize) -> Option<Entry>
@@ -65,4 +65,25 @@ pub trait Reader {
         requires { whole self.old }
         ensures same { Same whole commits room self.old self.new }
         ensures answer { result ≡ slice_get (parents_of (commits self.old) place) n };
+}
+
+/// The id, the generation or `-`, the date and the number of parents, parted by blanks.
+impl fmt::Display for Entry {
+    ghost use Rattle.std.specs.Prelude.{Some};
+    ghost use Rattle.history.specs.Printed.{entry_text};
+
+    ghost output = { λ e. Some (entry_text e) };
+
+    fn fmt<W: fmt::Write>(&self, f: &mut fmt::Formatter<W>) -> fmt::Result {
+        let Entry {
+            id,
+            date,
+            parents,
+            ..
+        } = *self;
+        match self.generation {
+            Some(generation) => write!(f, "{id} {generation} {date} {parents}"),
+            None => write!(f, "{id} - {date} {parents}"),
+        }
+    }
 }

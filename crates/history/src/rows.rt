@@ -1,10 +1,11 @@
 ghost use Rattle.std.specs.Prelude.{◌≡◌, List, []};
-ghost use Rattle.history.specs.Tables.{listed, Stored};
+ghost use Rattle.ancestry.specs.Lawful.{Laws};
+ghost use Rattle.history.specs.Tables.{listed};
 
-use crate::grow::History;
+use crate::grow::{History, NewCommit};
 use crate::reader::{Entry, Reader};
 use crate::table::{Row, Table};
-use crate::verdict::refuses;
+use crate::verdict::admits;
 use ancestry::{Id, Refusal};
 
 const CAPACITY: usize = 512;
@@ -18,7 +19,7 @@ pub struct Rows {
 impl Rows {
     /// An empty history.
     pub fn open() -> Rows
-        ensures whole { Stored 512 result.table }
+        ensures whole { Laws 512 (listed result.table) }
         ensures empty { listed result.table ≡ [] }
     {
         Rows {
@@ -28,13 +29,13 @@ impl Rows {
 }
 
 impl Reader for Rows {
-    ghost whole = { λ h. Stored 512 h.table };
+    ghost whole = { λ h. Laws 512 (listed h.table) };
 
     ghost commits = { λ h. listed h.table };
 
     ghost room = { λ _. 512 };
 
-    ghost lawful = { λ h w. w.laws };
+    ghost lawful = { λ _ laws. laws };
 
     fn count(&mut self) -> usize {
         self.table.len()
@@ -58,19 +59,10 @@ impl Reader for Rows {
 }
 
 impl History for Rows {
-    fn intake(
-        &mut self,
-        id: Id,
-        generation: Option<u32>,
-        date: i64,
-        parents: &[usize],
-    ) -> Result<usize, Refusal> {
-        if let Some(refusal) = refuses(self, id, generation, date, parents) {
-            return Err(refusal);
-        }
+    fn intake(&mut self, commit: &NewCommit<'_>) -> Result<usize, Refusal> {
+        admits(self, commit)?;
         let place = self.table.len();
-        let row = Row::of(id, generation, date, parents);
-        self.table.push(row);
+        self.table.push(Row::of(commit));
         Ok(place)
     }
 }

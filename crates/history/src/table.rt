@@ -1,135 +1,88 @@
 ghost use Rattle.std.specs.Prelude.{◌≡◌, ℕ, ◌+◌, ◌<◌, ◌≤◌, List, [], ◌∷◌, ◌++◌, length};
 ghost use Rattle.std.specs.List.{slice_get};
 ghost use Rattle.ancestry.specs.Commits.{place_of, parents_of};
-ghost use Rattle.ancestry.specs.Intake.{offered};
-ghost use Rattle.ancestry.specs.Numbers.{num};
-ghost use Rattle.history.specs.Meaning.{Reads};
-ghost use Rattle.history.specs.Tables.{commit_of, listed, Tidy, Neat};
+ghost use Rattle.history.specs.Meaning.{offered, Reads};
+ghost use Rattle.history.specs.Tables.{commit_of, listed};
 
+use crate::grow::NewCommit;
 use crate::reader::Entry;
 use ancestry::Id;
+use arrayvec::ArrayVec;
 
-// One commit as it is stored: the first `count` of the parents are its own.
-#[derive(Clone, Copy)]
+// One commit as it is stored.
+#[derive(Default, Drop)]
 pub struct Row {
     id: Id,
     generation: Option<u32>,
     date: i64,
-    count: usize,
-    parents: [usize; 16],
+    parents: ArrayVec<usize, 16>,
 }
 
-// Rows for at most N commits, of which the first `len` are taken.
+// Rows for at most N commits. They lie in the table itself, which takes no heap.
 #[derive(Drop)]
 pub struct Table<const N: usize> {
-    len: usize,
-    rows: [Row; N],
+    rows: ArrayVec<Row, N>,
 }
-
-const BLANK: Row = Row {
-    id: Id {
-        first: 0,
-        second: 0,
-        third: 0,
-        fourth: 0,
-        fifth: 0,
-    },
-    generation: None,
-    date: 0,
-    count: 0,
-    parents: [0; 16],
-};
 
 impl Row {
     // The row of a commit.
-    pub(crate) fn of(id: Id, generation: Option<u32>, date: i64, parents: &[usize]) -> Row
-        requires { length parents.now ≤ 16 }
-        ensures neat { Neat result }
-        ensures commit { commit_of result ≡ offered id generation date parents.now }
+    pub(crate) fn of(commit: &NewCommit<'_>) -> Row
+        requires { length commit.now.parents.now ≤ 16 }
+        ensures { commit_of result ≡ offered commit.now }
     {
-        let mut places = [0; 16];
-        for i in 0..parents.len() {
-            places[i] = parents[i];
-        }
         Row {
-            id,
-            generation,
-            date,
-            count: parents.len(),
-            parents: places,
+            id: commit.id,
+            generation: commit.generation,
+            date: commit.date,
+            parents: ArrayVec::try_from(commit.parents).unwrap(),
         }
     }
 }
 
 impl<const N: usize> Table<N> {
     pub(crate) fn new() -> Table<N>
-        ensures tidy { Tidy result }
-        ensures empty { listed result ≡ [] }
+        ensures { listed result ≡ [] }
     {
         Table {
-            len: 0,
-            rows: [BLANK; N],
+            rows: ArrayVec::new(),
         }
     }
 
     // One more row, where there is room.
     pub(crate) fn push(&mut self, row: Row)
-        requires tidy { Tidy self.old }
-        requires neat { Neat row }
-        requires room { self.old.len < N }
-        ensures tidy { Tidy self.new }
-        ensures grown { listed self.new ≡ listed self.old ++ commit_of row ∷ [] }
+        requires { length (listed self.old) < N }
+        ensures { listed self.new ≡ listed self.old ++ commit_of row ∷ [] }
     {
-        self.rows[self.len] = row;
-        self.len += 1;
+        self.rows.push(row);
     }
 
     pub(crate) fn len(&self) -> usize
-        requires { Tidy self.now }
         ensures { result ≡ length (listed self.now) }
     {
-        self.len
+        self.rows.len()
     }
 
     pub(crate) fn find(&self, id: Id) -> Option<usize>
-        requires { Tidy self.now }
-        ensures { result ≡ place_of (listed self.now) (num id) }
+        ensures { result ≡ place_of (listed self.now) id }
     {
-        for i in 0..self.len {
-            if self.rows[i].id.same(id) {
-                return Some(i);
-            }
-        }
-        None
+        self.rows.iter().position(|row| row.id == id)
     }
 
     pub(crate) fn read(&self, place: usize) -> Option<Entry>
-        requires { Tidy self.now }
         ensures { Reads (listed self.now) place result }
     {
-        if place >= self.len {
-            return None;
-        }
-        let row = &self.rows[place];
+        let row = self.rows.get(place)?;
         Some(Entry {
             id: row.id,
             generation: row.generation,
             date: row.date,
-            parents: row.count,
+            parents: row.parents.len(),
         })
     }
 
     pub(crate) fn parent(&self, place: usize, n: usize) -> Option<usize>
-        requires { Tidy self.now }
         ensures { result ≡ slice_get (parents_of (listed self.now) place) n }
     {
-        if place >= self.len {
-            return None;
-        }
-        let row = &self.rows[place];
-        if n >= row.count {
-            return None;
-        }
-        Some(row.parents[n])
+        self.rows.get(place)?.parents.get(n).copied()
     }
 }

@@ -1,12 +1,12 @@
-ghost use Rattle.std.specs.Prelude.{◌≡◌, ℕ, not, length, nat_le};
-ghost use Rattle.ancestry.specs.Sets.{any, absent};
-ghost use Rattle.ancestry.specs.Keys.{rank};
-ghost use Rattle.ancestry.specs.Commits.{place_of};
-ghost use Rattle.ancestry.specs.Intake.{offered, in_range, too_high, exceeds, refusal};
-ghost use Rattle.history.specs.Meaning.{Same};
+ghost use Rattle.std.specs.Prelude.{◌≡◌, ℕ, length, nat_le};
+ghost use Rattle.std.specs.List.{list_any};
+ghost use Rattle.ancestry.specs.Sets.{any};
+ghost use Rattle.ancestry.specs.Intake.{in_range, too_high, exceeds, refusal, unless};
+ghost use Rattle.history.specs.Meaning.{offered, Same};
 
+use crate::grow::NewCommit;
 use crate::reader::Reader;
-use ancestry::{Id, Refusal};
+use ancestry::{Refusal, rank};
 
 const OLDEST: i64 = -17_179_869_184;
 
@@ -16,53 +16,37 @@ const HIGHEST: u32 = 1_073_741_823;
 
 const MAX_PARENTS: usize = 16;
 
-/// Why the commit would be refused: the lowest refusal that applies, or none. Nothing is taken in.
+/// Whether the history would take the commit in, or why not: by the lowest refusal that applies. Nothing is taken in.
 ///
 /// Every intake asks this first, whatever the history.
-pub fn refuses<H: Reader>(
-    history: &mut H,
-    id: Id,
-    generation: Option<u32>,
-    date: i64,
-    parents: &[usize],
-) -> Option<Refusal>
+pub fn admits<H: Reader>(history: &mut H, commit: &NewCommit<'_>) -> Result<(), Refusal>
     requires { H.whole history.old }
     ensures same { Same H.whole H.commits H.room history.old history.new }
-    ensures answer { result ≡ refusal (H.room history.old) (H.commits history.old) (offered id generation date parents.now) }
+    ensures answer { result ≡ unless (refusal (H.room history.old) (H.commits history.old) (offered commit.now)) tt }
 {
-    if !in_range(date) {
-        return Some(Refusal::DateOutOfRange);
+    if !in_range(commit.date) {
+        return Err(Refusal::DateOutOfRange);
     }
-    if too_high(generation) {
-        return Some(Refusal::GenerationTooHigh);
+    if too_high(commit.generation) {
+        return Err(Refusal::GenerationTooHigh);
     }
-    if parents.len() > MAX_PARENTS {
-        return Some(Refusal::TooManyParents);
+    if commit.parents.len() > MAX_PARENTS {
+        return Err(Refusal::TooManyParents);
     }
-    if history.find(id).is_some() {
-        return Some(Refusal::IdHeld);
+    if history.find(commit.id).is_some() {
+        return Err(Refusal::IdHeld);
     }
-    if no_such(history, parents) {
-        return Some(Refusal::NoSuchParent);
+    if no_such(history, commit.parents) {
+        return Err(Refusal::NoSuchParent);
     }
-    if rises(history, rank(generation), parents) {
-        return Some(Refusal::GenerationRises);
+    if rises(history, rank(commit.generation), commit.parents) {
+        return Err(Refusal::GenerationRises);
     }
     let count = history.count();
     if count == history.capacity() {
-        return Some(Refusal::Full);
+        return Err(Refusal::Full);
     }
-    None
-}
-
-// The generation as it is compared: absent counts as the greatest number.
-fn rank(generation: Option<u32>) -> u32
-    ensures { result ≡ rank generation }
-{
-    match generation {
-        Some(g) => g,
-        None => u32::MAX,
-    }
+    Ok(())
 }
 
 fn in_range(date: i64) -> bool
@@ -71,28 +55,21 @@ fn in_range(date: i64) -> bool
     date >= OLDEST && date <= NEWEST
 }
 
+#[tactic(auto, unfolding(ancestry::specs::Intake::too_high))]
 fn too_high(generation: Option<u32>) -> bool
     ensures { result ≡ too_high generation }
 {
-    match generation {
-        Some(g) => g > HIGHEST,
-        None => false,
-    }
+    generation.is_some_and(|g| g > HIGHEST)
 }
 
 // Whether a parent is no place in the history.
 fn no_such<H: Reader>(history: &mut H, parents: &[usize]) -> bool
     requires { H.whole history.old }
     ensures same { Same H.whole H.commits H.room history.old history.new }
-    ensures answer { result ≡ any (λ p. nat_le (length (H.commits history.old)) p) parents.now }
+    ensures answer { result ≡ list_any (λ p. nat_le (length (H.commits history.old)) p) parents.now }
 {
     let count = history.count();
-    for place in parents {
-        if *place >= count {
-            return true;
-        }
-    }
-    false
+    parents.iter().any(|place| count <= *place)
 }
 
 // Whether the generation of a parent that is a place exceeds this one.

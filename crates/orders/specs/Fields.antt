@@ -1,7 +1,7 @@
 -- What is read of the fields of a line, or which field is not as expected.
 use Rattle.std.specs.Prelude.{ℕ, suc, Bool, true, false, cond, List, [], ◌∷◌, drop, Some, None, Ok, Err, codes, Option, Result}
 use Rattle.std.specs.Option.{option_map, ok_or}
-use Rattle.ancestry.specs.Numbers.{num, from_hex}
+use Rattle.ancestry.specs.Numbers.{from_hex}
 use Rattle.lines.specs.Bytes.{starts, field_of}
 use Rattle.orders.specs.Spelling.{decimal_of}
 use Rattle.orders.specs.declared.expected.Expected.{Expected}
@@ -66,7 +66,7 @@ pub data Via : Type 0 where
 
 abbrev pub via : Parent → Via
 via (Place n) = place n
-via (Named i) = named (num i)
+via (Named i) = named i
 
 -- `@` and a place, or an id
 unfoldable pub parent_of : List ℕ → Option Via

@@ -1,6 +1,6 @@
 ghost use Rattle.std.specs.Prelude.{◌≡◌, drop};
 ghost use Rattle.std.specs.Option.{option_map};
-ghost use Rattle.ancestry.specs.Numbers.{num, from_hex};
+ghost use Rattle.ancestry.specs.Numbers.{from_hex};
 ghost use Rattle.lines.specs.Bytes.{texts};
 ghost use Rattle.orders.specs.Spelling.{decimal_of, date_of, generation_of};
 ghost use Rattle.orders.specs.Fields.{ok_mapped, text_at, read_at, end_at, parent_of, via, each_on, checked, chosen};
@@ -41,7 +41,7 @@ pub(crate) fn word_at(fields: &[&[u8]], number: usize) -> Result<Word, Malformed
 
 /// The id that a field spells.
 pub(crate) fn id_at(fields: &[&[u8]], number: usize) -> Result<Id, Malformed>
-    ensures { ok_mapped num result ≡ read_at from_hex Expected.AnId (texts fields.now) number }
+    ensures { result ≡ read_at from_hex Expected.AnId (texts fields.now) number }
 {
     let expected = Expected::AnId;
     let text = text_at(fields, number, expected)?;

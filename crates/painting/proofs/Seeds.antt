@@ -2,12 +2,9 @@
 use Rattle.std.proofs.Common.{◌≡◌, ℕ, zero, suc, ◌+◌, ◌<◌, ◌≤◌, Bool, true, false, ◌||◌, List, [], ◌∷◌, ◌++◌, length, get_or, take, Some, None, Option, sym, refl, ap, ◌∙◌, subst, ⊎_elim, add-one, arith}
 use Rattle.std.proofs.lemmas.Bool.{false≢true, true≢false, cases_lt, or_cases, eqb-true}
 use Rattle.ancestry.specs.Sets.{any, member}
-use Rattle.ancestry.specs.Asking.{nums}
 use Rattle.ancestry.specs.Commits.{Commit, place_of}
 use Rattle.ancestry.specs.Lawful.{Lawful}
-use Rattle.ancestry.specs.Numbers.{num}
 use Rattle.ancestry.specs.Reaching.{Reaches, itself, through, reaches, reached_from, id_reaches}
-use Rattle.ancestry.specs.declared.id.Id.{Id}
 use Rattle.ancestry.proofs.Best.{reached_inside}
 use Rattle.ancestry.proofs.Join.{place_says}
 use Rattle.ancestry.proofs.Reach.{Reaches-trans, reaches_complete, reaches_itself, reaches_sound}
@@ -59,22 +56,22 @@ found_append : (o : Option ℕ) (ps qs : List ℕ) → with_found o ps ++ qs ≡
 found_append None ps qs = refl
 found_append (Some p) ps qs = refl
 
-places_end : (H : List Commit) (is : List Id) (n : ℕ) (d : Id) → n < length is → places_of H (nums (take (suc n) is)) ≡ places_of H (nums (take n is)) ++ places_of H (num (get_or is n d) ∷ [])
+places_end : (H : List Commit) (is : List ℕ) (n : ℕ) (d : ℕ) → n < length is → places_of H ((take (suc n) is)) ≡ places_of H ((take n is)) ++ places_of H ((get_or is n d) ∷ [])
 unfolding places_of
 places_end H [] n d l = absurd (omega arith)
 places_end H (i ∷ is) zero d l = refl
 places_end H (i ∷ is) (suc n) d l =
-    ap (with_found (place_of H (num i))) (places_end H is n d (omega arith))
-    ∙ sym (found_append (place_of H (num i)) (places_of H (nums (take n is))) (places_of H (num (get_or is n d) ∷ [])))
+    ap (with_found (place_of H i)) (places_end H is n d (omega arith))
+    ∙ sym (found_append (place_of H i) (places_of H ((take n is))) (places_of H ((get_or is n d) ∷ [])))
 
 -- one more id
-pub seed_more : (H : List Commit) (t : Told) (is : List Id) (n : ℕ) (d : Id) (ms l : List Mark) → n < length is → l ≡ hand_all t (places_of H (nums (take n is))) ms
-    → hand_all t (places_of H (num (get_or is n d) ∷ [])) l ≡ hand_all t (places_of H (nums (take (n + 1) is))) ms
+pub seed_more : (H : List Commit) (t : Told) (is : List ℕ) (n : ℕ) (d : ℕ) (ms l : List Mark) → n < length is → l ≡ hand_all t (places_of H ((take n is))) ms
+    → hand_all t (places_of H ((get_or is n d) ∷ [])) l ≡ hand_all t (places_of H ((take (n + 1) is))) ms
 seed_more H t is n d ms l h e =
-    ap (hand_all t (places_of H (num (get_or is n d) ∷ []))) e
-    ∙ hand_all-append t (places_of H (nums (take n is))) (places_of H (num (get_or is n d) ∷ [])) ms
+    ap (hand_all t (places_of H ((get_or is n d) ∷ []))) e
+    ∙ hand_all-append t (places_of H ((take n is))) (places_of H ((get_or is n d) ∷ [])) ms
     ∙ ap (λ (x : List ℕ). hand_all t x ms) (sym (places_end H is n d h))
-    ∙ ap (λ (k : ℕ). hand_all t (places_of H (nums (take k is))) ms) (sym (add-one n))
+    ∙ ap (λ (k : ℕ). hand_all t (places_of H ((take k is))) ms) (sym (add-one n))
 
 pub seed_none : (H : List Commit) (t : Told) (ms : List Mark) → ms ≡ hand_all t (places_of H []) ms
 unfolding hand_all places_of

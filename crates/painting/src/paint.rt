@@ -1,9 +1,7 @@
 // Painting a history down to the commits that are shared.
 ghost use Rattle.std.specs.Prelude.{◌≡◌, ℕ, ◌<◌, ◌≤◌, Bool, true, List, [], length, take};
 ghost use Rattle.ancestry.specs.Sets.{member};
-ghost use Rattle.ancestry.specs.Asking.{nums};
 ghost use Rattle.ancestry.specs.Bases.{shared};
-ghost use Rattle.ancestry.specs.Numbers.{num};
 ghost use Rattle.history.specs.Meaning.{Same};
 ghost use Rattle.painting.specs.Marks.{total, lively};
 ghost use Rattle.painting.specs.Bits.{flags};
@@ -48,7 +46,7 @@ pub fn paint_down_to_common<H: Reader>(
     requires results { length (H.commits history.old) ≤ length results.old }
     ensures same { Same H.whole H.commits H.room history.old history.new }
     ensures few { result ≤ length (H.commits history.old) }
-    ensures painted { Painted (H.commits history.old) (shared (H.commits history.old) (num first) (nums others.now)) (flags marks.new) (take result results.new) }
+    ensures painted { Painted (H.commits history.old) (shared (H.commits history.old) first others.now) (flags marks.new) (take result results.new) }
 {
     clear(marks);
     let mut queue = Queue::new(slots);
@@ -74,7 +72,7 @@ pub fn paint_from_places<H: Reader>(
     requires inside { (s : ℕ) → member s (take count results.old) ≡ true → s < length (H.commits history.old) }
     ensures same { Same H.whole H.commits H.room history.old history.new }
     ensures few { result ≤ length (H.commits history.old) }
-    ensures painted { Painted (H.commits history.old) (meeting (H.commits history.old) (num id) (take count results.old)) (flags marks.new) (take result results.new) }
+    ensures painted { Painted (H.commits history.old) (meeting (H.commits history.old) id (take count results.old)) (flags marks.new) (take result results.new) }
 {
     clear(marks);
     let mut queue = Queue::new(slots);

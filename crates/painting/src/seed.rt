@@ -1,8 +1,6 @@
 // Where painting starts.
 ghost use Rattle.std.specs.Prelude.{◌≡◌, ℕ, ◌<◌, true, [], ◌∷◌, length};
 ghost use Rattle.ancestry.specs.Sets.{member};
-ghost use Rattle.ancestry.specs.Asking.{nums};
-ghost use Rattle.ancestry.specs.Numbers.{num};
 ghost use Rattle.history.specs.Meaning.{Same};
 ghost use Rattle.painting.specs.Marks.{hand_all};
 ghost use Rattle.painting.specs.Bits.{flags};
@@ -37,7 +35,7 @@ pub(crate) fn seed<H: Reader>(
     requires size { length marks.old ≡ length (H.commits history.old) }
     requires kept { Kept (flags marks.old) queue.old live }
     ensures same { Same H.whole H.commits H.room history.old history.new }
-    ensures marks { flags marks.new ≡ hand_all told (places_of (H.commits history.old) (num id ∷ [])) (flags marks.old) }
+    ensures marks { flags marks.new ≡ hand_all told (places_of (H.commits history.old) (id ∷ [])) (flags marks.old) }
     ensures kept { Kept (flags marks.new) queue.new result }
 {
     let Some(place) = history.find(id) else {
@@ -59,7 +57,7 @@ pub(crate) fn seed_ids<H: Reader>(
     requires size { length marks.old ≡ length (H.commits history.old) }
     requires kept { Kept (flags marks.old) queue.old live }
     ensures same { Same H.whole H.commits H.room history.old history.new }
-    ensures marks { flags marks.new ≡ hand_all told (places_of (H.commits history.old) (nums ids.now)) (flags marks.old) }
+    ensures marks { flags marks.new ≡ hand_all told (places_of (H.commits history.old) ids.now) (flags marks.old) }
     ensures kept { Kept (flags marks.new) queue.new result }
 {
     for id in ids {

@@ -1,2 +1,3 @@
 pub mod Sifts
 pub mod Waiting
+pub mod Parts

@@ -43,10 +43,9 @@ impl Entry for Keyed {
     ghost bykey = { λ x y z (g, d, i). rw (g, d, i) };
 
     fn is_better(&self, other: &Keyed) -> bool {
-        if self.generation != other.generation {
-            return self.generation > other.generation;
-        }
-        is_newer(self.date, self.id, other.date, other.id)
+        let by_generation = self.generation.cmp(&other.generation);
+        let by_key = by_generation.then(self.date.cmp(&other.date));
+        by_key.then(other.id.cmp(&self.id)).is_gt()
     }
 }
 
@@ -64,16 +63,7 @@ impl Entry for Dated {
     ghost bykey = { λ x y z (d, i). rw (d, i) };
 
     fn is_better(&self, other: &Dated) -> bool {
-        is_newer(self.date, self.id, other.date, other.id)
+        let by_date = self.date.cmp(&other.date);
+        by_date.then(other.id.cmp(&self.id)).is_gt()
     }
-}
-
-// Whether a commit of this date and id is newer than one of the others.
-fn is_newer(date: i64, id: Id, other_date: i64, other_id: Id) -> bool
-    ensures { result ≡ newer (dated date id) (dated other_date other_id) }
-{
-    if date != other_date {
-        return date > other_date;
-    }
-    id.lower(other_id)
 }

@@ -48,10 +48,7 @@ impl<'a, E: Entry> Queue<'a, E> {
         ensures room { room self.new ≡ room self.old }
         ensures answer { Taken E.better self.old result self.new }
     {
-        if self.len == 0 {
-            return None;
-        }
-        let last = self.len - 1;
+        let last = self.len.checked_sub(1)?;
         let best = take_first(self.entries, last);
         self.len = last;
         Some(best)

@@ -1,16 +1,13 @@
 -- One more commit at a time: the bases of those so far reach all that they share.
-use Rattle.std.proofs.Common.{◌≡◌, ℕ, zero, suc, ◌+◌, ◌<◌, ◌≤◌, Bool, true, false, ◌&&◌, ◌||◌, eqb, List, [], ◌∷◌, ◌++◌, length, get_or, take, set, Some, None, sym, refl, ap, ◌∙◌, subst, ⊎_elim, add-one, arith}
-use Rattle.std.proofs.lemmas.List.{length-map, take_all}
+use Rattle.std.proofs.Common.{◌≡◌, ℕ, ◌+◌, ◌<◌, ◌≤◌, Bool, true, false, ◌&&◌, ◌||◌, eqb, List, [], ◌∷◌, ◌++◌, length, get_or, take, set, Some, None, sym, refl, ap, ◌∙◌, subst, ⊎_elim, arith}
+use Rattle.std.proofs.lemmas.List.{take_all, take_more}
 use Rattle.std.proofs.lemmas.Bool.{and_parts, and_from, eqb-true}
 use Rattle.std.proofs.lemmas.Bool.Decides.{nat_tests}
 use Rattle.ancestry.specs.Sets.{any, every, member}
-use Rattle.ancestry.specs.Asking.{nums}
 use Rattle.ancestry.specs.Bases.{shared_by_all}
 use Rattle.ancestry.specs.Commits.{Commit, place_of}
 use Rattle.ancestry.specs.Lawful.{Lawful}
-use Rattle.ancestry.specs.Numbers.{num}
 use Rattle.ancestry.specs.Reaching.{Reaches, itself, through, reaches, reached_from, id_reaches}
-use Rattle.ancestry.specs.declared.id.Id.{Id}
 use Rattle.ancestry.proofs.Best.{above}
 use Rattle.ancestry.proofs.Join.{place_says, id_reaches-at}
 use Rattle.ancestry.proofs.Reach.{reaches_sound}
@@ -105,25 +102,20 @@ round_more H L f z zs ps qs s b =
       bests = λ _. t;
     }
 
-nums_end : (is : List Id) (n : ℕ) (d : Id) → n < length is → nums (take (suc n) is) ≡ nums (take n is) ++ num (get_or is n d) ∷ []
-nums_end [] n d l = absurd (omega arith)
-nums_end (i ∷ is) zero d l = refl
-nums_end (i ∷ is) (suc n) d l = ap (λ (x : List ℕ). num i ∷ x) (nums_end is n d (omega arith))
-
 pub folded_start : (H : List Commit) (f : ℕ) (ps : List ℕ) → Spans H f [] ps → Folded H f [] ps
 folded_start H f ps s = record { spans = s; bests = λ l. absurd (omega arith) }
 
-pub folded_more : (H G : List Commit) → Lawful H → (f : ℕ) (is : List Id) (n : ℕ) (d : Id) (ps qs : List ℕ) → n < length is → G ≡ H → Folded H f (nums (take n is)) ps → Bests G (meeting G (num (get_or is n d)) ps) qs → Folded H f (nums (take (n + 1) is)) qs
+pub folded_more : (H G : List Commit) → Lawful H → (f : ℕ) (is : List ℕ) (n : ℕ) (d : ℕ) (ps qs : List ℕ) → n < length is → G ≡ H → Folded H f (take n is) ps → Bests G (meeting G (get_or is n d) ps) qs → Folded H f (take (n + 1) is) qs
 folded_more H G L f is n d ps qs l e h b =
-    let b' : Bests H (meeting H (num (get_or is n d)) ps) qs = subst (λ (X : List Commit). Bests X (meeting X (num (get_or is n d)) ps) qs) e b in
-    let z : nums (take (n + 1) is) ≡ nums (take n is) ++ num (get_or is n d) ∷ [] = ap (λ (j : ℕ). nums (take j is)) (add-one n) ∙ nums_end is n d l in
-    subst (λ (zs : List ℕ). Folded H f zs qs) (sym z) (round_more H L f (num (get_or is n d)) (nums (take n is)) ps qs h.spans b')
+    let b' : Bests H (meeting H (get_or is n d) ps) qs = subst (λ (X : List Commit). Bests X (meeting X (get_or is n d) ps) qs) e b in
+    let z : (take (n + 1) is) ≡ (take n is) ++ (get_or is n d) ∷ [] = take_more is n d l in
+    subst (λ (zs : List ℕ). Folded H f zs qs) (sym z) (round_more H L f (get_or is n d) (take n is) ps qs h.spans b')
 
 pub spans_at : (H G : List Commit) (f : ℕ) (ps : List ℕ) → G ≡ H → Spans H f [] ps → Spans G f [] ps
 spans_at H G f ps e s = subst (λ (X : List Commit). Spans X f [] ps) (sym e) s
 
-pub folded_all : (H : List Commit) (f : ℕ) (is : List Id) (n : ℕ) (ps : List ℕ) → length is ≤ n → Folded H f (nums (take n is)) ps → Folded H f (nums is) ps
-folded_all H f is n ps l h = subst (λ (x : List Id). Folded H f (nums x) ps) (take_all n is l) h
+pub folded_all : (H : List Commit) (f : ℕ) (is : List ℕ) (n : ℕ) (ps : List ℕ) → length is ≤ n → Folded H f (take n is) ps → Folded H f is ps
+folded_all H f is n ps l h = subst (λ (x : List ℕ). Folded H f x ps) (take_all n is l) h
 
-pub folded_bests : (H : List Commit) (f : ℕ) (is : List Id) (ps : List ℕ) → 0 < length is → Folded H f (nums is) ps → Bests H (shared_by_all H f (nums is)) ps
-folded_bests H f is ps l h = h.bests (omega (arith, length-map is num))
+pub folded_bests : (H : List Commit) (f : ℕ) (is : List ℕ) (ps : List ℕ) → 0 < length is → Folded H f is ps → Bests H (shared_by_all H f is) ps
+folded_bests H f is ps l h = h.bests l

@@ -1,14 +1,12 @@
 -- Ids in a list, and the answers without a walk.
-use Rattle.std.proofs.Common.{◌≡◌, ℕ, zero, suc, ◌+◌, ◌*◌, ◌<◌, ◌≤◌, Bool, true, false, cond, ◌||◌, eqb, ltb, ◌⊎◌, List, [], ◌∷◌, length, get_or, take, drop, set, Some, None, Ok, Option, sym, refl, ◌∙◌, inl, inr, add-one, arith, length-take}
-use Rattle.std.proofs.lemmas.List.{length-map}
+use Rattle.std.proofs.Common.{◌≡◌, ℕ, zero, suc, ◌+◌, ◌*◌, ◌<◌, ◌≤◌, Bool, true, false, cond, ◌||◌, eqb, ltb, ◌⊎◌, List, [], ◌∷◌, length, get_or, take, drop, set, Some, None, Ok, Option, sym, refl, ◌∙◌, inl, inr, add-one, arith}
 use Rattle.std.proofs.lemmas.Bool.{or_from, or_left, or_right, or_parts, and_from, and_parts, and_left, and_right, true≢false, ltb-false, lt-ltb, le-ltb}
 use Rattle.std.proofs.lemmas.Bool.Decides.{nat_tests}
 use Rattle.ancestry.specs.Sets.{any, every, member}
-use Rattle.ancestry.specs.Asking.{Space, short, denied, unless, nums}
+use Rattle.ancestry.specs.Asking.{Space, short, denied}
+use Rattle.ancestry.specs.Intake.{unless}
 use Rattle.ancestry.specs.Bases.{best, ids, shared, bases, empty, head, shared_by_all, octopus}
 use Rattle.ancestry.specs.Commits.{Commit}
-use Rattle.ancestry.specs.Numbers.{num}
-use Rattle.ancestry.specs.declared.id.Id.{Id}
 use Rattle.ancestry.specs.declared.refusal.Refusal.{Refusal}
 use Rattle.ancestry.specs.declared.refusal.Refusal.TheVariants.{TooManyOthers, WorkspaceShort}
 
@@ -17,71 +15,68 @@ pub member_none : (x : ℕ) → member x [] ≡ false
 unfolding member any
 member_none x = refl
 
-more : (x : ℕ) (is : List Id) (n : ℕ) (d : Id) → n < length is → member x (nums (take (suc n) is)) ≡ (member x (nums (take n is)) || eqb x (num (get_or is n d)))
+more : (x : ℕ) (is : List ℕ) (n : ℕ) (d : ℕ) → n < length is → member x (take (suc n) is) ≡ (member x (take n is) || eqb x (get_or is n d))
 unfolding member any
 more x [] n d l = absurd (omega arith)
 more x (i ∷ is) zero d l = grind (arith, nat_tests)
 more x (i ∷ is) (suc n) d l =
-    let h : any (eqb x) (nums (take (suc n) is)) ≡ (any (eqb x) (nums (take n is)) || eqb x (num (get_or is n d))) = more x is n d (omega arith) in
+    let h : any (eqb x) (take (suc n) is) ≡ (any (eqb x) (take n is) || eqb x (get_or is n d)) = more x is n d (omega arith) in
     grind (arith, nat_tests)
 
-pub member_more : (x : ℕ) (is : List Id) (n : ℕ) (d : Id) → n < length is → member x (nums (take n is)) ≡ false → eqb x (num (get_or is n d)) ≡ false → member x (nums (take (n + 1) is)) ≡ false
-member_more x is n d l e f = rw add-one (more x is n d l ∙ or_from (member x (nums (take n is))) (eqb x (num (get_or is n d))) e f)
+pub member_more : (x : ℕ) (is : List ℕ) (n : ℕ) (d : ℕ) → n < length is → member x (take n is) ≡ false → eqb x (get_or is n d) ≡ false → member x (take (n + 1) is) ≡ false
+member_more x is n d l e f = rw add-one (more x is n d l ∙ or_from (member x (take n is)) (eqb x (get_or is n d)) e f)
 
-pub member-at : (x : ℕ) (is : List Id) (n : ℕ) (d : Id) → n < length is → eqb x (num (get_or is n d)) ≡ true → member x (nums is) ≡ true
+pub member-at : (x : ℕ) (is : List ℕ) (n : ℕ) (d : ℕ) → n < length is → eqb x (get_or is n d) ≡ true → member x is ≡ true
 unfolding member any
 member-at x [] n d l e = absurd (omega arith)
-member-at x (i ∷ is) zero d l e = or_left (eqb x (num i)) (any (eqb x) (nums is)) e
-member-at x (i ∷ is) (suc n) d l e = or_right (eqb x (num i)) (any (eqb x) (nums is)) (member-at x is n d (omega arith) e)
+member-at x (i ∷ is) zero d l e = or_left (eqb x i) (any (eqb x) is) e
+member-at x (i ∷ is) (suc n) d l e = or_right (eqb x i) (any (eqb x) is) (member-at x is n d (omega arith) e)
 
 -- ALL OF A LIST
 pub every_none : (f : ℕ) → every (eqb f) [] ≡ true
 unfolding every
 every_none f = refl
 
-pub every_more : (f : ℕ) (is : List Id) (n : ℕ) (d : Id) → n < length is → every (eqb f) (nums (take n is)) ≡ true → eqb f (num (get_or is n d)) ≡ true → every (eqb f) (nums (take (n + 1) is)) ≡ true
+pub every_more : (f : ℕ) (is : List ℕ) (n : ℕ) (d : ℕ) → n < length is → every (eqb f) (take n is) ≡ true → eqb f (get_or is n d) ≡ true → every (eqb f) (take (n + 1) is) ≡ true
 unfolding every
 every_more f is n d l h e = rw add-one (go is n l h e)
   where
-    go : (is : List Id) (n : ℕ) → n < length is → every (eqb f) (nums (take n is)) ≡ true → eqb f (num (get_or is n d)) ≡ true → every (eqb f) (nums (take (suc n) is)) ≡ true
+    go : (is : List ℕ) (n : ℕ) → n < length is → every (eqb f) (take n is) ≡ true → eqb f (get_or is n d) ≡ true → every (eqb f) (take (suc n) is) ≡ true
     go [] n l h e = absurd (omega arith)
-    go (i ∷ is) zero l h e = and_from (eqb f (num i)) true e refl
-    go (i ∷ is) (suc n) l h e = let a = and_parts (eqb f (num i)) (every (eqb f) (nums (take n is))) h in and_from (eqb f (num i)) (every (eqb f) (nums (take (suc n) is))) a.0 (go is n (omega arith) a.1 e)
+    go (i ∷ is) zero l h e = and_from (eqb f i) true e refl
+    go (i ∷ is) (suc n) l h e = let a = and_parts (eqb f i) (every (eqb f) (take n is)) h in and_from (eqb f i) (every (eqb f) (take (suc n) is)) a.0 (go is n (omega arith) a.1 e)
 
-pub every_not : (f : ℕ) (is : List Id) (n : ℕ) (d : Id) → n < length is → eqb f (num (get_or is n d)) ≡ false → every (eqb f) (nums is) ≡ false
+pub every_not : (f : ℕ) (is : List ℕ) (n : ℕ) (d : ℕ) → n < length is → eqb f (get_or is n d) ≡ false → every (eqb f) is ≡ false
 unfolding every
 every_not f [] n d l e = absurd (omega arith)
-every_not f (i ∷ is) zero d l e = and_left (eqb f (num i)) (every (eqb f) (nums is)) e
-every_not f (i ∷ is) (suc n) d l e = and_right (eqb f (num i)) (every (eqb f) (nums is)) (every_not f is n d (omega arith) e)
+every_not f (i ∷ is) zero d l e = and_left (eqb f i) (every (eqb f) is) e
+every_not f (i ∷ is) (suc n) d l e = and_right (eqb f i) (every (eqb f) is) (every_not f is n d (omega arith) e)
 
-pub every_some : (f : ℕ) (is : List Id) → every (eqb f) (nums is) ≡ false → 0 < length is
+pub every_some : (f : ℕ) (is : List ℕ) → every (eqb f) is ≡ false → 0 < length is
 unfolding every
 every_some f [] e = absurd (true≢false e)
 every_some f (i ∷ is) e = omega arith
 
 -- THE ANSWERS
-empty_is : (is : List Id) → empty (nums is) ≡ eqb (length is) 0
+empty_is : (is : List ℕ) → empty is ≡ eqb (length is) 0
 unfolding empty
 empty_is [] = refl
 empty_is (i ∷ is) = grind (arith, nat_tests)
 
 -- no walk is needed
-pub bases_plain : (H : List Commit) (f : ℕ) (is : List Id) → (length is ≡ 0) ⊎ (member f (nums is) ≡ true) → bases H f (nums is) ≡ f ∷ []
+pub bases_plain : (H : List Commit) (f : ℕ) (is : List ℕ) → (length is ≡ 0) ⊎ (member f is ≡ true) → bases H f is ≡ f ∷ []
 unfolding bases
 bases_plain H f is h = rw (plainly h) refl
   where
-    plainly : (length is ≡ 0) ⊎ (member f (nums is) ≡ true) → (empty (nums is) || member f (nums is)) ≡ true
-    plainly (inl e) = or_left (empty (nums is)) (member f (nums is)) (empty_is is ∙ (let z : length is ≡ 0 = e in grind (arith, nat_tests)))
-    plainly (inr m) = or_right (empty (nums is)) (member f (nums is)) m
+    plainly : (length is ≡ 0) ⊎ (member f is ≡ true) → (empty is || member f is) ≡ true
+    plainly (inl e) = or_left (empty is) (member f is) (empty_is is ∙ (let z : length is ≡ 0 = e in grind (arith, nat_tests)))
+    plainly (inr m) = or_right (empty is) (member f is) m
 
-pub bases_walked : (H : List Commit) (f : ℕ) (is : List Id) → (length is ≡ 0 → ⊥) → member f (nums is) ≡ false → bases H f (nums is) ≡ ids H (best H (shared H f (nums is)))
+pub bases_walked : (H : List Commit) (f : ℕ) (is : List ℕ) → (length is ≡ 0 → ⊥) → member f is ≡ false → bases H f is ≡ ids H (best H (shared H f is))
 unfolding bases
-bases_walked H f is n m = rw (or_from (empty (nums is)) (member f (nums is)) (empty_is is ∙ (let z : length is ≡ 0 → ⊥ = n in grind (arith, nat_tests))) m) refl
+bases_walked H f is n m = rw (or_from (empty is) (member f is) (empty_is is ∙ (let z : length is ≡ 0 → ⊥ = n in grind (arith, nat_tests))) m) refl
 
-pub length-nums : (n : ℕ) (xs : List Id) → n ≤ length xs → length (nums (take n xs)) ≡ n
-length-nums n xs l = length-map (take n xs) num ∙ length-take n xs ∙ (omega arith)
-
-pub plain_slots : (list : List ℕ) (f : Id) (before : List Id) → list ≡ num f ∷ [] → 0 < length before → (nums (take 1 (set before 0 f)) ≡ list) × (drop 1 (set before 0 f) ≡ drop 1 before)
+pub plain_slots : (list : List ℕ) (f : ℕ) (before : List ℕ) → list ≡ f ∷ [] → 0 < length before → (take 1 (set before 0 f) ≡ list) × (drop 1 (set before 0 f) ≡ drop 1 before)
 plain_slots list f [] e l = absurd (omega arith)
 plain_slots list f (x ∷ xs) e l = (sym e, refl)
 

@@ -1,7 +1,7 @@
 ghost use Rattle.std.specs.Prelude.{◌≡◌, length, IfOk};
-ghost use Rattle.ancestry.specs.Asking.{space_of, denied, unless, nums, numbered, Listed, first_slot};
+ghost use Rattle.ancestry.specs.Asking.{space_of, denied, Listed, first_slot};
+ghost use Rattle.ancestry.specs.Intake.{unless};
 ghost use Rattle.ancestry.specs.Bases.{bases, octopus};
-ghost use Rattle.ancestry.specs.Numbers.{num};
 ghost use Rattle.history.specs.Meaning.{Same};
 ghost use Rattle.revision.specs.Owned.{sizes_of, needed, slots_of};
 
@@ -12,21 +12,6 @@ use ancestry::{Id, Refusal};
 use history::Reader;
 use queue::Keyed;
 use std::alloc::{AllocError, Global};
-
-const NO_ID: Id = Id {
-    first: 0,
-    second: 0,
-    third: 0,
-    fourth: 0,
-    fifth: 0,
-};
-
-const NO_ENTRY: Keyed = Keyed {
-    generation: 0,
-    date: 0,
-    id: NO_ID,
-    place: 0,
-};
 
 /// A workspace that owns its memory, with its answer slots, for callers that have a heap.
 ///
@@ -50,10 +35,17 @@ impl OwnedWorkspace {
         let Some(entries) = thrice.checked_add(1_001) else {
             return Err(AllocError);
         };
+        let none = Id::default();
+        let entry = Keyed {
+            generation: 0,
+            date: 0,
+            id: none,
+            place: 0,
+        };
         let marks = vec![in heap; 0u64; count]?;
-        let queue = vec![in heap; NO_ENTRY; entries]?;
+        let queue = vec![in heap; entry; entries]?;
         let stack = vec![in heap; 0usize; 2 * count]?;
-        let answers = vec![in heap; NO_ID; count + 1]?;
+        let answers = vec![in heap; none; count + 1]?;
         Ok(OwnedWorkspace {
             marks,
             queue,
@@ -84,8 +76,8 @@ impl OwnedWorkspace {
         requires { H.whole history.old }
         ensures same { Same H.whole H.commits H.room history.old history.new }
         ensures sizes { sizes_of self.new ≡ sizes_of self.old }
-        ensures answer { result ≡ unless (denied (sizes_of self.old) (length (H.commits history.old)) (length others.now)) (length (bases (H.commits history.old) (num first) (nums others.now))) }
-        ensures slots { Listed (bases (H.commits history.old) (num first) (nums others.now)) (slots_of self.old) result (slots_of self.new) }
+        ensures answer { result ≡ unless (denied (sizes_of self.old) (length (H.commits history.old)) (length others.now)) (length (bases (H.commits history.old) first others.now)) }
+        ensures slots { Listed (bases (H.commits history.old) first others.now) (slots_of self.old) result (slots_of self.new) }
     {
         ask_bases(
             history,
@@ -108,7 +100,7 @@ impl OwnedWorkspace {
         requires { H.whole history.old }
         ensures same { Same H.whole H.commits H.room history.old history.new }
         ensures sizes { sizes_of self.new ≡ sizes_of self.old }
-        ensures answer { numbered result ≡ unless (denied (sizes_of self.old) (length (H.commits history.old)) (length others.now)) (octopus (H.commits history.old) (num first) (nums others.now)) }
+        ensures answer { result ≡ unless (denied (sizes_of self.old) (length (H.commits history.old)) (length others.now)) (octopus (H.commits history.old) first others.now) }
         ensures slots { slots_of self.new ≡ first_slot (slots_of self.old) result }
     {
         ask_common(
@@ -142,8 +134,8 @@ fn ask_bases<H: Reader>(
 ) -> Result<usize, Refusal>
     requires { H.whole history.old }
     ensures same { Same H.whole H.commits H.room history.old history.new }
-    ensures answer { result ≡ unless (denied (space_of (length marks.old) (length queue.old) (length stack.old) (length answers.old)) (length (H.commits history.old)) (length others.now)) (length (bases (H.commits history.old) (num first) (nums others.now))) }
-    ensures slots { Listed (bases (H.commits history.old) (num first) (nums others.now)) answers.old result answers.new }
+    ensures answer { result ≡ unless (denied (space_of (length marks.old) (length queue.old) (length stack.old) (length answers.old)) (length (H.commits history.old)) (length others.now)) (length (bases (H.commits history.old) first others.now)) }
+    ensures slots { Listed (bases (H.commits history.old) first others.now) answers.old result answers.new }
 {
     let space = Workspace {
         marks,
@@ -165,7 +157,7 @@ fn ask_common<H: Reader>(
 ) -> Result<Option<Id>, Refusal>
     requires { H.whole history.old }
     ensures same { Same H.whole H.commits H.room history.old history.new }
-    ensures answer { numbered result ≡ unless (denied (space_of (length marks.old) (length queue.old) (length stack.old) (length answers.old)) (length (H.commits history.old)) (length others.now)) (octopus (H.commits history.old) (num first) (nums others.now)) }
+    ensures answer { result ≡ unless (denied (space_of (length marks.old) (length queue.old) (length stack.old) (length answers.old)) (length (H.commits history.old)) (length others.now)) (octopus (H.commits history.old) first others.now) }
     ensures slots { answers.new ≡ first_slot answers.old result }
 {
     let space = Workspace {

@@ -1,7 +1,7 @@
 ghost use Rattle.std.specs.Prelude.{◌≡◌, ℕ, ◌≤◌, List, length, take, drop};
-ghost use Rattle.ancestry.specs.Asking.{space_of, denied, unless, nums, Listed, Stays};
+ghost use Rattle.ancestry.specs.Asking.{space_of, denied, Listed, Stays};
+ghost use Rattle.ancestry.specs.Intake.{unless};
 ghost use Rattle.ancestry.specs.Bases.{bases, best, ids, shared};
-ghost use Rattle.ancestry.specs.Numbers.{num};
 ghost use Rattle.history.specs.Meaning.{Same};
 
 use crate::merge_bases::ids::contains;
@@ -32,8 +32,8 @@ pub fn merge_base<H: Reader>(
 ) -> Result<usize, Refusal>
     requires { H.whole history.old }
     ensures same { Same H.whole H.commits H.room history.old history.new }
-    ensures answer { result ≡ unless (denied (space_of (length space.entry.marks.now) (length space.entry.queue.now) (length space.entry.stack.now) (length answers.old)) (length (H.commits history.old)) (length others.now)) (length (bases (H.commits history.old) (num first) (nums others.now))) }
-    ensures slots { Listed (bases (H.commits history.old) (num first) (nums others.now)) answers.old result answers.new }
+    ensures answer { result ≡ unless (denied (space_of (length space.entry.marks.now) (length space.entry.queue.now) (length space.entry.stack.now) (length answers.old)) (length (H.commits history.old)) (length others.now)) (length (bases (H.commits history.old) first others.now)) }
+    ensures slots { Listed (bases (H.commits history.old) first others.now) answers.old result answers.new }
     ensures marks { Stays result space.entry.marks.now space.exit.0.now }
     ensures queue { Stays result space.entry.queue.now space.exit.1.0.now }
     ensures stack { Stays result space.entry.stack.now space.exit.1.1.0.now }
@@ -91,7 +91,7 @@ fn find_bases<H: Reader>(
     requires answers { length (H.commits history.old) ≤ length answers.old }
     ensures same { Same H.whole H.commits H.room history.old history.new }
     ensures few { result ≤ length (H.commits history.old) }
-    ensures written { nums (take result answers.new) ≡ ids (H.commits history.old) (best (H.commits history.old) (shared (H.commits history.old) (num first) (nums others.now))) }
+    ensures written { take result answers.new ≡ ids (H.commits history.old) (best (H.commits history.old) (shared (H.commits history.old) first others.now)) }
     ensures beyond { drop result answers.new ≡ drop result answers.old }
 {
     let found = paint_down_to_common(history, first, others, marks, queue, results);

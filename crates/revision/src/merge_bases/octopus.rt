@@ -1,8 +1,8 @@
 ghost use Rattle.std.specs.Prelude.{◌≡◌, ℕ, ◌<◌, ◌≤◌, true, List, [], length, take};
 ghost use Rattle.ancestry.specs.Sets.{member};
-ghost use Rattle.ancestry.specs.Asking.{space_of, denied, unless, nums, num_if, numbered, first_slot, Stays};
+ghost use Rattle.ancestry.specs.Asking.{space_of, denied, first_slot, Stays};
+ghost use Rattle.ancestry.specs.Intake.{unless};
 ghost use Rattle.ancestry.specs.Bases.{octopus, best, ids, head, shared_by_all};
-ghost use Rattle.ancestry.specs.Numbers.{num};
 ghost use Rattle.history.specs.Meaning.{Same};
 ghost use Rattle.painting.specs.Seeded.{meeting};
 ghost use Rattle.painting.specs.Walks.{Bests};
@@ -34,7 +34,7 @@ pub fn octopus<H: Reader>(
 ) -> Result<Option<Id>, Refusal>
     requires { H.whole history.old }
     ensures same { Same H.whole H.commits H.room history.old history.new }
-    ensures answer { numbered result ≡ unless (denied (space_of (length space.entry.marks.now) (length space.entry.queue.now) (length space.entry.stack.now) (length answers.old)) (length (H.commits history.old)) (length others.now)) (octopus (H.commits history.old) (num first) (nums others.now)) }
+    ensures answer { result ≡ unless (denied (space_of (length space.entry.marks.now) (length space.entry.queue.now) (length space.entry.stack.now) (length answers.old)) (length (H.commits history.old)) (length others.now)) (octopus (H.commits history.old) first others.now) }
     ensures slots { answers.new ≡ first_slot answers.old result }
     ensures marks { Stays result space.entry.marks.now space.exit.0.now }
     ensures queue { Stays result space.entry.queue.now space.exit.1.0.now }
@@ -94,7 +94,7 @@ fn find_common<H: Reader>(
     requires results { length (H.commits history.old) ≤ length results.old }
     requires walk { length (H.commits history.old) ≤ length walk.old }
     ensures same { Same H.whole H.commits H.room history.old history.new }
-    ensures answer { num_if result ≡ head (ids (H.commits history.old) (best (H.commits history.old) (shared_by_all (H.commits history.old) (num first) (nums others.now)))) }
+    ensures answer { result ≡ head (ids (H.commits history.old) (best (H.commits history.old) (shared_by_all (H.commits history.old) first others.now))) }
 {
     let mut len = start(history, first, results);
     for other in others {
@@ -109,7 +109,7 @@ fn start<H: Reader>(history: &mut H, first: Id, results: &mut [usize]) -> usize
     requires results { length (H.commits history.old) ≤ length results.old }
     ensures same { Same H.whole H.commits H.room history.old history.new }
     ensures few { result ≤ length (H.commits history.old) }
-    ensures spans { Spans (H.commits history.old) (num first) [] (take result results.new) }
+    ensures spans { Spans (H.commits history.old) first [] (take result results.new) }
 {
     let Some(place) = history.find(first) else {
         return 0;
@@ -137,7 +137,7 @@ fn round<H: Reader>(
     requires inside { (s : ℕ) → member s (take count results.old) ≡ true → s < length (H.commits history.old) }
     ensures same { Same H.whole H.commits H.room history.old history.new }
     ensures few { result ≤ length (H.commits history.old) }
-    ensures bests { Bests (H.commits history.old) (meeting (H.commits history.old) (num id) (take count results.old)) (take result results.new) }
+    ensures bests { Bests (H.commits history.old) (meeting (H.commits history.old) id (take count results.old)) (take result results.new) }
 {
     let found = paint_from_places(history, id, count, marks, queue, results);
     remove_redundant(history, marks, results, found, walk)

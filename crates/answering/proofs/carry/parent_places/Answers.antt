@@ -1,9 +1,8 @@
-use Rattle.std.proofs.Common.{map, get_or, vec_items, ap, ◌∙◌}
+use Rattle.std.proofs.Common.{map, vec_items, ap, ◌∙◌}
 use Rattle.std.proofs.lemmas.List.{take_all}
 use Rattle.history.proofs.Sames.{same_self, same_then}
 use Rattle.answering.specs.Answers.{place_in}
 use Rattle.orders.specs.Fields.{via}
-use Rattle.orders.specs.declared.parent.Parent.TheVariants.{Place}
 use Rattle.answering.proofs.Placing.{places_more}
 use Rattle.answering.proofs.carry.parent_places.Goals as goal
 
@@ -16,12 +15,13 @@ parent_place-requires g c = c.loop-parent.invariant.0.still
 pub loop-parent-preserved : goal.loop-parent-preserved
 loop-parent-preserved g c =
     let H = g.H.Reader.commits c.args.history.now in
-    let i = c.loop-parent.parent-index in (
+    let i = c.loop-parent.parent-index in
+    let d = c.parent-item.result in (
       same_then c.loop-parent.invariant.0 c.parent_place.ensures.same,
       c.in_ok-push.ensures.items
-          ∙ places_more H c.args.parents.now i (Place 0) (vec_items c.loop-parent.places) c.parent_place.result
+          ∙ places_more H c.args.parents.now i d (vec_items c.loop-parent.places) c.parent_place.result
           c.loop-parent-test.true c.loop-parent.invariant.1
-          (c.parent_place.ensures.answer ∙ ap (λ K. place_in K (via (get_or c.args.parents.now i (Place 0)))) c.loop-parent.invariant.0.list),
+          (c.parent_place.ensures.answer ∙ ap (λ K. place_in K (via d)) c.loop-parent.invariant.0.list ∙ ap (λ q. place_in H (via q)) c.parent-item.is),
     )
 
 pub returns : goal.returns

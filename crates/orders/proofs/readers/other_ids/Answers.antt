@@ -1,7 +1,7 @@
 use Rattle.std.proofs.Common.{◌<◌, ◌≤◌, length, Err, sym, ap, ◌∙◌, arith}
 use Rattle.std.proofs.lemmas.List.{length-map}
 use Rattle.std.proofs.lemmas.Result.{err_from_is_err_and}
-use Rattle.ancestry.specs.Numbers.{num, from_hex}
+use Rattle.ancestry.specs.Numbers.{from_hex}
 use Rattle.lines.specs.Bytes.{texts}
 use Rattle.orders.specs.Fields.{checked}
 use Rattle.orders.specs.declared.expected.Expected.TheVariants.{AnId}
@@ -14,7 +14,7 @@ loop-number-preserved c =
     let n = c.loop-number.number in
     let l : n ≤ length fs = omega (arith, length-map c.args.fields.now (λ f. f.now), c.loop-number-test.true) in (
       omega arith,
-      sym (ap checked (each_next from_hex AnId fs n (num c.in_ok-id_at.field-0) c.loop-number.invariant.0 l (sym c.in_ok-id_at.ensures)) ∙ checked_next (num c.in_ok-id_at.field-0) _)
+      sym (ap checked (each_next from_hex AnId fs n c.in_ok-id_at.field-0 c.loop-number.invariant.0 l (sym c.in_ok-id_at.ensures)) ∙ checked_next c.in_ok-id_at.field-0 _)
           ∙ c.loop-number.invariant.1,
     )
 

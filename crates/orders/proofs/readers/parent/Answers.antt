@@ -1,7 +1,6 @@
 use Rattle.std.proofs.Common.{Some, None, sym, ap, ◌∙◌}
 use Rattle.std.specs.Option.{option_map}
 use Rattle.std.proofs.lemmas.List.{take_rest}
-use Rattle.ancestry.specs.Numbers.{num}
 use Rattle.orders.specs.Spelling.{decimal_of}
 use Rattle.orders.specs.Fields.{via}
 use Rattle.orders.proofs.Spelled.{parent_place, parent_named}
@@ -26,5 +25,5 @@ returns-in_err-from_hex c =
 
 pub returns : goal.returns
 returns c =
-    parent_named c.args.text.now (Some (num c.in_ok-from_hex.field-0)) (sym c.if-starts_with.ensures)
+    parent_named c.args.text.now (Some c.in_ok-from_hex.field-0) (sym c.if-starts_with.ensures)
     c.in_ok-from_hex.ensures

@@ -1,7 +1,5 @@
 use Rattle.std.proofs.Common.{◌≡◌, List, [], ◌∷◌, length, sym, ap, ◌∙◌, subst, arith}
-use Rattle.ancestry.specs.Asking.{nums}
 use Rattle.ancestry.specs.Commits.{Commit}
-use Rattle.ancestry.specs.Numbers.{num}
 use Rattle.history.proofs.Sames.{same_then}
 use Rattle.painting.specs.Bits.{flags}
 use Rattle.painting.specs.Marks.{hand_all}
@@ -23,18 +21,18 @@ seed-ours-requires g c = record {
 
 -- the marks once all are told
 seeded : (g : _) (c : goal.After-seed_ids-live g)
-    → flags c.seed_ids-live.new.marks ≡ hand_all theirs (places_of (g.H.Reader.commits c.args.history.now) (nums c.args.others.now)) (hand_all ours (places_of (g.H.Reader.commits c.args.history.now) (num c.args.first ∷ [])) (flags c.clear.new.marks))
+    → flags c.seed_ids-live.new.marks ≡ hand_all theirs (places_of (g.H.Reader.commits c.args.history.now) c.args.others.now) (hand_all ours (places_of (g.H.Reader.commits c.args.history.now) (c.args.first ∷ [])) (flags c.clear.new.marks))
 seeded g c =
     c.seed_ids-live.ensures.marks
-    ∙ ap (λ (x : List Commit). hand_all theirs (places_of x (nums c.args.others.now)) (flags c.seed-ours.new.marks)) c.seed-ours.ensures.same.list
-    ∙ ap (hand_all theirs (places_of (g.H.Reader.commits c.args.history.now) (nums c.args.others.now))) c.seed-ours.ensures.marks
+    ∙ ap (λ (x : List Commit). hand_all theirs (places_of x c.args.others.now) (flags c.seed-ours.new.marks)) c.seed-ours.ensures.same.list
+    ∙ ap (hand_all theirs (places_of (g.H.Reader.commits c.args.history.now) c.args.others.now)) c.seed-ours.ensures.marks
 
 pub paint-requires : goal.paint-requires
 paint-requires g c =
     let H = g.H.Reader.commits c.args.history.now in
     let L = (g.H.Reader.lawful c.args.history.now c.requires.whole).lawful in
-    let fs = places_of H (num c.args.first ∷ []) in
-    let ps = places_of H (nums c.args.others.now) in
+    let fs = places_of H (c.args.first ∷ []) in
+    let ps = places_of H c.args.others.now in
     let ms = flags c.clear.new.marks in
     let e = seeded g (goal.at.paint-requires g c).After-seed_ids-live in
     let n = ap length (same_then c.seed-ours.ensures.same c.seed_ids-live.ensures.same).list in
@@ -52,8 +50,8 @@ returns g c =
     let H = g.H.Reader.commits c.args.history.now in
     let L = (g.H.Reader.lawful c.args.history.now c.requires.whole).lawful in
     let s = same_then c.seed-ours.ensures.same c.seed_ids-live.ensures.same in
-    let f = num c.args.first in
-    let zs = nums c.args.others.now in
+    let f = c.args.first in
+    let zs = c.args.others.now in
     record {
       same = same_then s c.paint.ensures.same;
       few = omega (arith, c.paint.ensures.few, ap length s.list);

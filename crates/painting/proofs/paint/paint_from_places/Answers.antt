@@ -1,5 +1,4 @@
 use Rattle.std.proofs.Common.{◌≡◌, ℕ, ◌-◌, true, List, [], ◌∷◌, length, take, sym, ap, ◌∙◌, subst, arith}
-use Rattle.ancestry.specs.Numbers.{num}
 use Rattle.ancestry.specs.Sets.{member}
 use Rattle.history.proofs.Sames.{same_then}
 use Rattle.painting.specs.Bits.{flags}
@@ -34,7 +33,7 @@ seed_places-live-requires g c =
 
 -- the marks once all are told
 seeded : (g : _) (c : goal.After-seed_places-live g)
-    → flags c.seed_places-live.new.marks ≡ hand_all theirs (take c.args.count c.args.results.now) (hand_all ours (places_of (g.H.Reader.commits c.args.history.now) (num c.args.id ∷ [])) (flags c.clear.new.marks))
+    → flags c.seed_places-live.new.marks ≡ hand_all theirs (take c.args.count c.args.results.now) (hand_all ours (places_of (g.H.Reader.commits c.args.history.now) (c.args.id ∷ [])) (flags c.clear.new.marks))
 seeded g c =
     let e : c.args.count - 0 ≡ c.args.count = omega arith in
     c.seed_places-live.ensures.marks
@@ -45,7 +44,7 @@ pub paint-requires : goal.paint-requires
 paint-requires g c =
     let H = g.H.Reader.commits c.args.history.now in
     let L = (g.H.Reader.lawful c.args.history.now c.requires.whole).lawful in
-    let fs = places_of H (num c.args.id ∷ []) in
+    let fs = places_of H (c.args.id ∷ []) in
     let ps = take c.args.count c.args.results.now in
     let ms = flags c.clear.new.marks in
     let e = seeded g (goal.at.paint-requires g c).After-seed_places-live in
@@ -64,7 +63,7 @@ returns g c =
     let H = g.H.Reader.commits c.args.history.now in
     let L = (g.H.Reader.lawful c.args.history.now c.requires.whole).lawful in
     let s = same_then c.seed-ours.ensures.same c.seed_places-live.ensures.same in
-    let i = num c.args.id in
+    let i = c.args.id in
     let ps = take c.args.count c.args.results.now in
     record {
       same = same_then s c.paint.ensures.same;

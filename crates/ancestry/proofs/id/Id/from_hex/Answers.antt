@@ -1,4 +1,5 @@
-use Rattle.std.proofs.Common.{◌≡◌, length, arith}
+use Rattle.std.proofs.Common.{◌≡◌, Some, ap, ◌∙◌, length, arith}
+use Rattle.ancestry.proofs.Bytes.{spelled_five}
 use Rattle.ancestry.proofs.Readings.{not_forty, forty_none_0, forty_none_1, forty_none_2, forty_none_3, forty_none_4, forty_some}
 use Rattle.ancestry.proofs.id.Id.from_hex.Goals as goal
 
@@ -33,7 +34,7 @@ returns-in_err-fifth c =
 pub returns : goal.returns
 returns c =
     let n : length c.args.text.now ≡ 40 = omega arith in
-    forty_some c.args.text.now n
+    ap Some (spelled_five _ _ _ _ _) ∙ forty_some c.args.text.now n
     c.in_ok-first.first c.in_ok-first.ensures
     c.in_ok-second.second c.in_ok-second.ensures
     c.in_ok-third.third c.in_ok-third.ensures

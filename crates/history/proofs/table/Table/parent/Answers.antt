@@ -1,19 +1,15 @@
-use Rattle.std.proofs.Common.{arith}
-use Rattle.history.specs.Tables.{blank}
-use Rattle.history.proofs.Listed.{parent_past, parent_none, parent_some, neat_at}
+use Rattle.std.proofs.Common.{ap, sym, ◌∙◌}
+use Rattle.std.specs.List.{slice_get}
+use Rattle.ancestry.specs.Commits.{Commit}
+use Rattle.history.proofs.Listed.{found_at, nothing_at, copied_get}
 use Rattle.history.proofs.table.Table.parent.Goals as goal
 
-pub returns-then-place-self : goal.returns-then-place-self
-returns-then-place-self g c = parent_past c.args.self.now c.requires _ _ c.if-place-self.true
-
-pub returns-then-n-row : goal.returns-then-n-row
-returns-then-n-row g c = parent_none c.args.self.now c.requires _ _ c.if-place-self.false c.if-n-row.true
-
-pub offset_bounds-row-n : goal.offset_bounds-row-n
-offset_bounds-row-n g c = let n = neat_at c.args.self.now c.requires c.args.place blank c.if-place-self.false in omega (arith, n.few)
-
-pub bounds-row-n : goal.bounds-row-n
-bounds-row-n g c = let n = neat_at c.args.self.now c.requires c.args.place blank c.if-place-self.false in omega (arith, n.few)
+pub returns-in_err-get : goal.returns-in_err-get
+returns-in_err-get g c = c.from_residual.ensures ∙ nothing_at c.args.self.now _ c.args.place c.deref.ensures.0 c.args.n c.in_err-get.ensures.lookup.0
 
 pub returns : goal.returns
-returns g c = parent_some c.args.self.now c.requires _ _ c.if-place-self.false c.if-n-row.false
+returns g c =
+    let found = c.in_ok-get.ensures.lookup in
+    let e = found_at c.args.self.now _ c.args.place c.deref.ensures.0 c.in_ok-get.field-0.now found.0 found.1 in
+    let x = c.get-2.ensures.lookup in
+    c.copied.ensures ∙ copied_get _ c.in_ok-get.field-0.now.parents.items _ c.args.n c.deref-2.ensures.0 x.0 x.1 ∙ sym (ap (λ (d : Commit). slice_get d.parents c.args.n) e)

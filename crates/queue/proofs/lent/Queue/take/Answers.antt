@@ -1,4 +1,4 @@
-use Rattle.std.proofs.Common.{◌≡◌, ℕ, ◌+◌, ◌-◌, false, ◌∷◌, take, sym, subst, arith}
+use Rattle.std.proofs.Common.{◌≡◌, ℕ, ◌+◌, false, ◌∷◌, take, sym, subst, arith}
 use Rattle.std.specs.List.Sorted.{IsPermutation}
 use Rattle.std.specs.List.{AllByRecursion}
 use Rattle.queue.specs.Heaps.{Heaped}
@@ -14,13 +14,13 @@ returns g c =
     let x = c.take_first-best.result in
     let told = c.take_first-best.ensures in
     let w = c.requires in
-    let e : n - 1 + 1 ≡ n = omega arith in
+    let e : c.in_ok-last.last + 1 ≡ n = omega arith in
     let h = told.heaped (subst (Heaped b xs) (sym e) w.heaped) in
     record {
       whole = record { fits = omega (arith, w.fits); heaped = h.0 };
       room = omega arith;
       answer = (
-        subst (λ (m : ℕ). IsPermutation (take m xs) (x ∷ take (n - 1) ys)) e told.shuffled,
+        subst (λ (m : ℕ). IsPermutation (take m xs) (x ∷ take c.in_ok-last.last ys)) e told.shuffled,
         subst (λ (m : ℕ). AllByRecursion (λ y. b y x ≡ false) (take m xs)) e h.1,
       );
     }

@@ -2,15 +2,13 @@ use Rattle.std.proofs.Common.{◌≡◌, ℕ, ◌-◌, length, take, ap, arith}
 use Rattle.std.proofs.lemmas.List.{length-take-le}
 use Rattle.history.proofs.Sames.{same_then}
 use Rattle.painting.specs.Walks.{Bests}
-use Rattle.ancestry.specs.Asking.{nums}
 use Rattle.ancestry.specs.Bases.{shared}
-use Rattle.ancestry.specs.Numbers.{num}
 use Rattle.revision.proofs.Moves.{bests_at, list_at, bests_inside}
 use Rattle.revision.proofs.merge_bases.function.find_bases.Goals as goal
 use Rattle.revision.proofs.merge_bases.function.find_bases.Goals.{After-remove_redundant-kept}
 
 -- what is left is the best of what is shared
-kept : (g : _) (c : goal.After-remove_redundant-kept g) → Bests (g.H.Reader.commits c.args.history.now) (shared (g.H.Reader.commits c.args.history.now) (num c.args.first) (nums c.args.others.now)) (take c.remove_redundant-kept.result c.remove_redundant-kept.new.results)
+kept : (g : _) (c : goal.After-remove_redundant-kept g) → Bests (g.H.Reader.commits c.args.history.now) (shared (g.H.Reader.commits c.args.history.now) c.args.first c.args.others.now) (take c.remove_redundant-kept.result c.remove_redundant-kept.new.results)
 kept g c =
     let p = c.paint_down_to_common-found in
     bests_at (g.H.Reader.commits c.args.history.now) (g.H.Reader.commits p.new.history) p.ensures.same.list _ _ _ _ p.ensures.painted c.remove_redundant-kept.ensures.bests

@@ -2,12 +2,11 @@ use Rattle.std.proofs.Common.{◌≡◌, ℕ, true, ◌⊎◌, List, length, tak
 use Rattle.std.proofs.lemmas.List.{length-take-le}
 use Rattle.std.proofs.lemmas.Bool.{eqb-true, eqb-false}
 use Rattle.ancestry.specs.Sets.{member}
-use Rattle.ancestry.specs.Asking.{space_of, denied, nums}
+use Rattle.ancestry.specs.Asking.{space_of, denied}
 use Rattle.ancestry.specs.Bases.{bases, best, ids, shared}
 use Rattle.ancestry.specs.Commits.{Commit}
-use Rattle.ancestry.specs.Numbers.{num}
 use Rattle.history.proofs.Sames.{same_then}
-use Rattle.revision.proofs.Members.{bases_plain, bases_walked, length-nums, plain_slots, enough, answered}
+use Rattle.revision.proofs.Members.{bases_plain, bases_walked, plain_slots, enough, answered}
 use Rattle.revision.proofs.merge_bases.function.merge_base.Goals as goal
 use Rattle.revision.proofs.merge_bases.function.merge_base.Goals.{In_default, then-is_empty-via-then-is_empty, then-is_empty-via-else-is_empty+then-contains}
 
@@ -23,11 +22,11 @@ bounds-answers-0 g c = let h = enough _ _ _ (free g (goal.at.bounds-answers-0 g 
 pub returns-then-is_empty : goal.returns-then-is_empty
 returns-then-is_empty g c =
     let H = g.H.Reader.commits c.args.history.now in
-    let f = num c.args.first in
+    let f = c.args.first in
     let zs = c.args.others.now in
     let none = free g (goal.at.returns-then-is_empty g c).In_default in
     let h = enough _ _ _ none in
-    let why : (length zs ≡ 0) ⊎ (member f (nums zs) ≡ true) = elim c.then-is_empty.branch [
+    let why : (length zs ≡ 0) ⊎ (member f zs ≡ true) = elim c.then-is_empty.branch [
       | then-is_empty-via-then-is_empty w ↦ inl (eqb-true (length zs) 0 (sym c.is_empty.ensures ∙ w.if-is_empty.true))
       | then-is_empty-via-else-is_empty+then-contains w ↦ inr (sym w.contains.ensures ∙ w.if-contains.true)
     ] in
@@ -35,7 +34,7 @@ returns-then-is_empty g c =
     record {
       same = c.count-count.ensures.same;
       answer = answered _ _ 1 none (sym (ap length b));
-      slots = plain_slots (bases H f (nums zs)) c.args.first c.args.answers.now b (omega (arith, h.answers));
+      slots = plain_slots (bases H f zs) c.args.first c.args.answers.now b (omega (arith, h.answers));
       marks = tt;
       queue = tt;
       stack = tt;
@@ -66,17 +65,17 @@ find_bases-found-requires g c =
 pub returns : goal.returns
 returns g c =
     let H = g.H.Reader.commits c.args.history.now in
-    let f = num c.args.first in
+    let f = c.args.first in
     let zs = c.args.others.now in
     let s = c.count-count.ensures.same in
     let none = free g (goal.at.returns g c).In_default in
     let h = enough _ _ _ none in
     let r = c.find_bases-found in
     let after = r.new.answers in
-    let w : nums (take r.result after) ≡ bases H f (nums zs) = r.ensures.written ∙ ap (λ (x : List Commit). ids x (best x (shared x f (nums zs)))) s.list ∙ sym (bases_walked H f zs (λ e. eqb-false (length zs) 0 (sym c.is_empty.ensures ∙ c.if-is_empty.false) e) (sym c.contains.ensures ∙ c.if-contains.false)) in
+    let w : (take r.result after) ≡ bases H f zs = r.ensures.written ∙ ap (λ (x : List Commit). ids x (best x (shared x f zs))) s.list ∙ sym (bases_walked H f zs (λ e. eqb-false (length zs) 0 (sym c.is_empty.ensures ∙ c.if-is_empty.false) e) (sym c.contains.ensures ∙ c.if-contains.false)) in
     record {
       same = same_then s r.ensures.same;
-      answer = answered _ _ r.result none (sym (length-nums r.result after (omega (arith, r.ensures.few, ap length s.list, h.answers, r.auto.answers))) ∙ ap length w);
+      answer = answered _ _ r.result none (sym (length-take-le r.result after (omega (arith, r.ensures.few, ap length s.list, h.answers, r.auto.answers))) ∙ ap length w);
       slots = (w, r.ensures.beyond);
       marks = tt;
       queue = tt;

@@ -1,17 +1,13 @@
-use Rattle.std.proofs.Common.{◌≡◌, ℕ, ◌-◌, List, length, take, ap, ◌∙◌, arith}
+use Rattle.std.proofs.Common.{ℕ, subst, ◌≡◌, ℕ, ◌-◌, List, length, take, ap, ◌∙◌, arith}
 use Rattle.std.proofs.lemmas.List.{length-take-le}
-use Rattle.ancestry.specs.Asking.{nums}
 use Rattle.ancestry.specs.Bases.{best, ids, head, shared_by_all}
 use Rattle.ancestry.specs.Commits.{Commit}
-use Rattle.ancestry.specs.Numbers.{num}
-use Rattle.ancestry.specs.declared.id.Id.{Id}
 use Rattle.history.proofs.Sames.{same_self, same_then}
 use Rattle.revision.proofs.Folds.{folded_start, folded_more, folded_all, folded_bests, spans_at}
 use Rattle.revision.proofs.Moves.{head_at, bests_inside}
+use Rattle.painting.specs.Seeded.{meeting}
+use Rattle.painting.specs.Walks.{Bests}
 use Rattle.revision.proofs.merge_bases.octopus.find_common.Goals as goal
-
-abbrev no-id : Id
-no-id = record { first = 0; second = 0; third = 0; fourth = 0; fifth = 0 }
 
 pub loop-other-init : goal.loop-other-init
 loop-other-init g c = (same_self _ c.start-len.ensures.same.still, omega (arith, c.start-len.ensures.few, ap length c.start-len.ensures.same.list), λ f s. folded_start _ f _ s)
@@ -24,7 +20,7 @@ round-len-requires g c =
     let i = c.loop-other.invariant in
     let n = ap length i.0.list in
     let m = ap length a.same.list in
-    let f = num c.args.first in
+    let f = c.args.first in
     let h = i.2 f (spans_at H G f _ a.same.list a.spans) in
     record {
       whole = i.0.still;
@@ -44,7 +40,7 @@ loop-other-preserved g c =
     let r = c.round-len.ensures in (
       same_then i.0 r.same,
       omega (arith, r.few, ap length i.0.list),
-      λ f s. folded_more G (g.H.Reader.commits c.loop-other.history) L f c.args.others.now c.loop-other.other-index no-id (take c.loop-other.len c.loop-other.results) (take c.round-len.result c.round-len.new.results) c.loop-other-test.true i.0.list (i.2 f s) r.bests,
+      λ f s. folded_more G (g.H.Reader.commits c.loop-other.history) L f c.args.others.now c.loop-other.other-index c.other-item.result (take c.loop-other.len c.loop-other.results) (take c.round-len.result c.round-len.new.results) c.loop-other-test.true i.0.list (i.2 f s) (subst (λ (j : ℕ). Bests (g.H.Reader.commits c.loop-other.history) (meeting (g.H.Reader.commits c.loop-other.history) j (take c.loop-other.len c.loop-other.results)) (take c.round-len.result c.round-len.new.results)) c.other-item.is r.bests),
     )
 
 -- what is left at the end
@@ -56,7 +52,7 @@ first_best-requires g c =
     let i = c.loop-other.invariant in
     let n = ap length i.0.list in
     let m = ap length a.same.list in
-    let f = num c.args.first in
+    let f = c.args.first in
     let b = folded_bests G f c.args.others.now _ c.requires.some (folded_all G f c.args.others.now c.loop-other.other-index _ c.loop-other-test.false (i.2 f (spans_at H G f _ a.same.list a.spans))) in
     let d : c.loop-other.len - 0 ≡ c.loop-other.len = omega arith in
     record {
@@ -71,11 +67,11 @@ returns g c =
     let H = g.H.Reader.commits c.args.history.now in
     let a = c.start-len.ensures in
     let i = c.loop-other.invariant in
-    let f = num c.args.first in
+    let f = c.args.first in
     let b = folded_bests G f c.args.others.now _ c.requires.some (folded_all G f c.args.others.now c.loop-other.other-index _ c.loop-other-test.false (i.2 f (spans_at H G f _ a.same.list a.spans))) in
     let d : c.loop-other.len - 0 ≡ c.loop-other.len = omega arith in
     let k = head_at G (g.H.Reader.commits c.loop-other.history) i.0.list _ _ _ _ (ap (λ (k : ℕ). take k c.loop-other.results) d) b c.first_best.ensures.answer in
     record {
       same = same_then a.same (same_then i.0 c.first_best.ensures.same);
-      answer = k ∙ ap (λ (x : List Commit). head (ids x (best x (shared_by_all x f (nums c.args.others.now))))) a.same.list;
+      answer = k ∙ ap (λ (x : List Commit). head (ids x (best x (shared_by_all x f c.args.others.now)))) a.same.list;
     }

@@ -1,9 +1,8 @@
 use Rattle.std.proofs.Common.{◌≡◌, ℕ, List, length, None, sym, refl, ap, ◌∙◌, arith}
 use Rattle.std.proofs.lemmas.List.{length-take-le}
-use Rattle.ancestry.specs.Asking.{space_of, denied, nums, num_if}
+use Rattle.ancestry.specs.Asking.{space_of, denied}
 use Rattle.ancestry.specs.Bases.{octopus, best, ids, head, shared_by_all}
 use Rattle.ancestry.specs.Commits.{Commit}
-use Rattle.ancestry.specs.Numbers.{num}
 use Rattle.history.proofs.Sames.{same_then}
 use Rattle.revision.proofs.Members.{every_some, octopus_plain, octopus_walked, enough, answered}
 use Rattle.revision.proofs.merge_bases.octopus.octopus.Goals as goal
@@ -43,7 +42,7 @@ find_common-common-requires g c =
     let p = c.split_at_mut-results.ensures in
     record {
       whole = s.still;
-      some = every_some (num c.args.first) c.args.others.now (sym c.all_same.ensures ∙ c.if-all_same.false);
+      some = every_some c.args.first c.args.others.now (sym c.all_same.ensures ∙ c.if-all_same.false);
       marks = length-take-le _ c.args.space.marks.now (omega (arith, h.marks, e)) ∙ (omega (arith, n, e));
       queue = omega (arith, n, h.queue);
       results = omega (arith, n, e, p.front_len);
@@ -51,17 +50,17 @@ find_common-common-requires g c =
     }
 
 -- the commit found is the one that is asked for
-found : (g : _) (c : goal.After-find_common-common g) → num_if c.find_common-common.result ≡ octopus (g.H.Reader.commits c.args.history.now) (num c.args.first) (nums c.args.others.now)
+found : (g : _) (c : goal.After-find_common-common g) → c.find_common-common.result ≡ octopus (g.H.Reader.commits c.args.history.now) c.args.first c.args.others.now
 found g c =
-    let f = num c.args.first in
-    let zs = nums c.args.others.now in
+    let f = c.args.first in
+    let zs = c.args.others.now in
     octopus_walked _ f zs _ (sym c.all_same.ensures ∙ c.if-all_same.false)
     (c.find_common-common.ensures.answer ∙ ap (λ (x : List Commit). head (ids x (best x (shared_by_all x f zs)))) c.count-count.ensures.same.list)
 
 pub returns-in_default-common : goal.returns-in_default-common
 returns-in_default-common g c = record {
   same = same_then c.count-count.ensures.same c.find_common-common.ensures.same;
-  answer = answered _ _ _ (free g (goal.at.returns-in_default-common g c).In_default) (ap num_if (sym c.in_default-common.is) ∙ found g (goal.at.returns-in_default-common g c).After-find_common-common);
+  answer = answered _ _ _ (free g (goal.at.returns-in_default-common g c).In_default) ((sym c.in_default-common.is) ∙ found g (goal.at.returns-in_default-common g c).After-find_common-common);
   slots = refl;
   marks = tt;
   queue = tt;
@@ -74,7 +73,7 @@ bounds-answers-0-2 g c = let h = enough _ _ _ (free g (goal.at.bounds-answers-0-
 pub returns : goal.returns
 returns g c = record {
   same = same_then c.count-count.ensures.same c.find_common-common.ensures.same;
-  answer = answered _ _ _ (free g (goal.at.returns g c).In_default) (ap num_if (sym c.in-Some-common.is) ∙ found g (goal.at.returns g c).After-find_common-common);
+  answer = answered _ _ _ (free g (goal.at.returns g c).In_default) ((sym c.in-Some-common.is) ∙ found g (goal.at.returns g c).After-find_common-common);
   slots = refl;
   marks = tt;
   queue = tt;

@@ -1,0 +1,8 @@
+use Rattle.std.proofs.Common.{sym, ◌∙◌}
+use Rattle.ancestry.proofs.Compared.{eq-spelled}
+use Rattle.ancestry.proofs.id.IdPartialEq.eq.Goals as goal
+
+pub returns : goal.returns
+returns c =
+    c.eq.ensures ∙ eq-spelled 4294967296 c.self.inside.words c.other.inside.words (c.self.invariant.five ∙ sym c.other.invariant.five) c.self.invariant.bits c.other.invariant.bits
+    ∙ rw (c.self.view_is, c.other.view_is)

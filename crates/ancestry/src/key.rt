@@ -1,0 +1,10 @@
+ghost use Rattle.std.specs.Prelude.{◌≡◌};
+ghost use Rattle.ancestry.specs.Keys.{rank};
+
+/// The generation as keys compare it: an absent one counts as 4,294,967,295.
+#[tactic(auto, unfolding(crate::specs::Keys::rank))]
+pub fn rank(generation: Option<u32>) -> u32
+    ensures { result ≡ rank generation }
+{
+    generation.unwrap_or(u32::MAX)
+}
