@@ -11,6 +11,7 @@ use Rattle.orders.specs.Fields.{Via, place, named}
 use Rattle.orders.specs.Lines.{Said, commit, name, count, capacity, find, read, parent, later}
 use Rattle.answering.specs.declared.answer.Answer.{Answer}
 use Rattle.answering.specs.declared.answer.Answer.TheVariants as answer
+use Rattle.history.specs.declared.reader.Reader.{Ghosts}
 
 -- the place of a parent that a line names; an id that is not held has a place that no history has
 abbrev pub place_in : List Commit → Via → ℕ
@@ -49,7 +50,7 @@ Done room H s (Ok a) H' = Right room H s a × (H' ≡ after room H s)
 Done room H s (Err e) H' = H' ≡ H
 
 -- an order was answered: the history is whole after it, with the same capacity
-pub record Answered {S : Type 0} (whole : S → Type 0) (commits : S → List Commit) (room : S → ℕ) (before : S) (s : Said) (r : Result Answer AllocError) (after : S) : Type 0 where
-  pub still : whole after
-  pub capacity : room after ≡ room before
-  pub done : Done (room before) (commits before) s r (commits after)
+pub record Answered {S : Type 0} (h : Ghosts S) (before : S) (s : Said) (r : Result Answer AllocError) (after : S) : Type 0 where
+  pub still : h.whole after
+  pub capacity : h.room after ≡ h.room before
+  pub done : Done (h.room before) (h.commits before) s r (h.commits after)

@@ -1,5 +1,5 @@
 ghost use Rattle.std.specs.Prelude.{◌≡◌, ℕ, map, IfOk};
-ghost use Rattle.history.specs.Meaning.{Same};
+ghost use Rattle.history.specs.Unchanged.{Unchanged};
 ghost use Rattle.orders.specs.Fields.{via};
 ghost use Rattle.orders.specs.Lines.{said};
 ghost use Rattle.answering.specs.Answers.{place_in, Answered};
@@ -16,7 +16,7 @@ pub fn carry_out<H: History>(
     order: Order,
 ) -> Result<Answer, AllocError>
     requires { H.Reader.whole history.old }
-    ensures answer { Answered H.Reader.whole H.Reader.commits H.Reader.room history.old (said order) result history.new }
+    ensures answer { Answered H.Reader history.old (said order) result history.new }
 {
     match order {
         Order::Commit(offer) => take_in(heap, history, offer),
@@ -33,7 +33,7 @@ pub fn carry_out<H: History>(
 // Offers the commit to the history.
 fn take_in<H: History>(heap: Global, history: &mut H, offer: Offer) -> Result<Answer, AllocError>
     requires { H.Reader.whole history.old }
-    ensures answer { Answered H.Reader.whole H.Reader.commits H.Reader.room history.old (said (Order.Commit offer)) result history.new }
+    ensures answer { Answered H.Reader history.old (said (Order.Commit offer)) result history.new }
 {
     let places = parent_places(heap, history, offer.parents.as_slice())?;
     let commit = NewCommit {
@@ -52,7 +52,7 @@ fn parent_places<H: Reader>(
     parents: &[Parent],
 ) -> Result<Vec<usize>, AllocError>
     requires { H.whole history.old }
-    ensures same { Same H.whole H.commits H.room history.old history.new }
+    ensures same { Unchanged H.Reader history.old history.new }
     ensures answer { IfOk result (λ v. v.items ≡ map (place_in (H.commits history.old)) (map via parents.now)) }
 {
     let mut places = Vec::new(heap);
@@ -67,7 +67,7 @@ fn parent_places<H: Reader>(
 /// An id that is not held is given as a place that no history has, so that intake itself refuses it.
 pub fn parent_place<H: Reader>(history: &mut H, parent: Parent) -> usize
     requires { H.whole history.old }
-    ensures same { Same H.whole H.commits H.room history.old history.new }
+    ensures same { Unchanged H.Reader history.old history.new }
     ensures answer { result ≡ place_in (H.commits history.old) (via parent) }
 {
     match parent {

@@ -6,6 +6,7 @@ use Rattle.answering.specs.declared.answer.Answer.{Answer}
 use Rattle.orders.specs.Lines.{Said}
 use Rattle.answering.specs.Answers.{Right, after}
 use Rattle.orders.specs.declared.expected.Malformed.{Malformed}
+use Rattle.history.specs.declared.reader.Reader.{Ghosts}
 
 -- the reply to a line, by what it says or its first fault, and the commits held after it: a malformed line changes nothing
 abbrev pub Fits : ℕ → List Commit → Result Said Malformed → Result Answer Malformed → List Commit → Type 0
@@ -20,7 +21,7 @@ Replies room H q (Ok r) H' = Fits room H q r H'
 Replies room H q (Err e) H' = H' ≡ H
 
 -- a line was replied to: the history is whole after it, with the same capacity
-pub record Replied {S : Type 0} (whole : S → Type 0) (commits : S → List Commit) (room : S → ℕ) (before : S) (q : Result Said Malformed) (r : Result (Result Answer Malformed) AllocError) (after : S) : Type 0 where
-  pub still : whole after
-  pub capacity : room after ≡ room before
-  pub done : Replies (room before) (commits before) q r (commits after)
+pub record Replied {S : Type 0} (h : Ghosts S) (before : S) (q : Result Said Malformed) (r : Result (Result Answer Malformed) AllocError) (after : S) : Type 0 where
+  pub still : h.whole after
+  pub capacity : h.room after ≡ h.room before
+  pub done : Replies (h.room before) (h.commits before) q r (h.commits after)

@@ -29,8 +29,7 @@ fn print_malformed<W: Write>(
     malformed: &Malformed,
     found: Option<&[u8]>,
 ) -> io::Result<()> {
-    let field = malformed.field;
-    let expected = malformed.expected.words();
+    let Malformed { field, expected } = malformed;
     write!(out, "malformed: field {field}: expected {expected}, found ")?;
     match found {
         Some(text) => print_found(out, text),

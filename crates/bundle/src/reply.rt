@@ -17,11 +17,11 @@ pub(crate) fn respond<H: History>(
     fields: &[&[u8]],
 ) -> Result<Reply, AllocError>
     requires { H.Reader.whole history.old }
-    ensures answer { Replied H.Reader.whole H.Reader.commits H.Reader.room history.old (line (texts fields.now)) result history.new }
+    ensures answer { Replied H.Reader history.old (line (texts fields.now)) result history.new }
 {
     match parse(heap, fields) {
         Ok(order) => Ok(Ok(carry_out(heap, history, order)?)),
         Err(Fault::Line(malformed)) => Ok(Err(malformed)),
-        Err(Fault::Memory) => Err(AllocError),
+        Err(Fault::Memory(error)) => Err(error),
     }
 }

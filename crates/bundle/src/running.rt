@@ -6,7 +6,7 @@ use crate::printing::print;
 use crate::reply::respond;
 use crate::tally::Tally;
 use history::History;
-use lines::{fields, is_passed_over, next_line, trim};
+use lines::{Lines, fields, is_passed_over, trim};
 use std::alloc::Global;
 use std::io;
 use std::io::Write;
@@ -23,17 +23,15 @@ pub fn run<H: History, W: Write>(
     ensures answer { IfOk result (λ t. Ran (H.Reader.room history.old) (H.Reader.commits history.old) no_lines (lines_of text.now) (H.Reader.commits history.new) t) }
 {
     let mut tally = Tally::default();
-    let mut rest = text;
-    while !rest.is_empty() {
-        let (line, after) = next_line(rest);
+    for line in Lines::new(text) {
         let line = trim(line);
-        if !is_passed_over(line) {
-            let fields = fields(heap, line)?;
-            let reply = respond(heap, history, fields.as_slice())?;
-            tally.count(&reply);
-            print(out, line, fields.as_slice(), &reply)?;
+        if is_passed_over(line) {
+            continue;
         }
-        rest = after;
+        let fields = fields(heap, line)?;
+        let reply = respond(heap, history, fields.as_slice())?;
+        tally.count(&reply);
+        print(out, line, fields.as_slice(), &reply)?;
     }
     writeln!(out, "{tally}")?;
     Ok(tally)

@@ -2,7 +2,8 @@ ghost use Rattle.std.specs.Prelude.{◌≡◌, ℕ, length, nat_le};
 ghost use Rattle.std.specs.List.{list_any};
 ghost use Rattle.ancestry.specs.Sets.{any};
 ghost use Rattle.ancestry.specs.Intake.{in_range, too_high, exceeds, refusal, unless};
-ghost use Rattle.history.specs.Meaning.{offered, Same};
+ghost use Rattle.history.specs.Meaning.{offered};
+ghost use Rattle.history.specs.Unchanged.{Unchanged};
 
 use crate::grow::NewCommit;
 use crate::reader::Reader;
@@ -21,7 +22,7 @@ const MAX_PARENTS: usize = 16;
 /// Every intake asks this first, whatever the history.
 pub fn admits<H: Reader>(history: &mut H, commit: &NewCommit<'_>) -> Result<(), Refusal>
     requires { H.whole history.old }
-    ensures same { Same H.whole H.commits H.room history.old history.new }
+    ensures same { Unchanged H.Reader history.old history.new }
     ensures answer { result ≡ unless (refusal (H.room history.old) (H.commits history.old) (offered commit.now)) tt }
 {
     if !in_range(commit.date) {
@@ -49,10 +50,11 @@ pub fn admits<H: Reader>(history: &mut H, commit: &NewCommit<'_>) -> Result<(), 
     Ok(())
 }
 
+#[tactic(auto, unfolding(ancestry::specs::Intake::in_range))]
 fn in_range(date: i64) -> bool
     ensures { result ≡ in_range date }
 {
-    date >= OLDEST && date <= NEWEST
+    (OLDEST..=NEWEST).contains(&date)
 }
 
 #[tactic(auto, unfolding(ancestry::specs::Intake::too_high))]
@@ -65,7 +67,7 @@ fn too_high(generation: Option<u32>) -> bool
 // Whether a parent is no place in the history.
 fn no_such<H: Reader>(history: &mut H, parents: &[usize]) -> bool
     requires { H.whole history.old }
-    ensures same { Same H.whole H.commits H.room history.old history.new }
+    ensures same { Unchanged H.Reader history.old history.new }
     ensures answer { result ≡ list_any (λ p. nat_le (length (H.commits history.old)) p) parents.now }
 {
     let count = history.count();
@@ -75,7 +77,7 @@ fn no_such<H: Reader>(history: &mut H, parents: &[usize]) -> bool
 // Whether the generation of a parent that is a place exceeds this one.
 fn rises<H: Reader>(history: &mut H, generation: u32, parents: &[usize]) -> bool
     requires { H.whole history.old }
-    ensures same { Same H.whole H.commits H.room history.old history.new }
+    ensures same { Unchanged H.Reader history.old history.new }
     ensures answer { result ≡ any (exceeds (H.commits history.old) generation) parents.now }
 {
     for place in parents {
@@ -89,7 +91,7 @@ fn rises<H: Reader>(history: &mut H, generation: u32, parents: &[usize]) -> bool
 // Whether the place holds a commit whose generation exceeds this one.
 fn exceeded<H: Reader>(history: &mut H, place: usize, generation: u32) -> bool
     requires { H.whole history.old }
-    ensures same { Same H.whole H.commits H.room history.old history.new }
+    ensures same { Unchanged H.Reader history.old history.new }
     ensures answer { result ≡ exceeds (H.commits history.old) generation place }
 {
     match history.read(place) {

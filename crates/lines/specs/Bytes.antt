@@ -1,17 +1,17 @@
 -- Lines of a text and fields of a line, as lists of bytes.
 use Rattle.std.specs.Prelude.{ℕ, zero, suc, ◌+◌, ◌-◌, Bool, false, cond, not, ◌||◌, List, [], ◌∷◌, map, length, take, drop, None, Option, ◌==◌}
 use Rattle.std.specs.Borrow.{Bor}
-use Rattle.std.specs.List.{slice_get, prefix_len, suffix_len}
+use Rattle.std.specs.List.{slice_get, prefix_len, suffix_len, onto_first}
 
 -- a space, a tab or a CR
 abbrev pub blank : ℕ → Bool
 blank b = b == 32 || b == 9 || b == 13
 
-unfoldable pub in_field : ℕ → Bool
+abbrev pub in_field : ℕ → Bool
 in_field b = not (blank b)
 
 -- a line ends at LF
-unfoldable pub in_line : ℕ → Bool
+abbrev pub in_line : ℕ → Bool
 in_line b = not (b == 10)
 
 -- the text begins with the byte
@@ -27,15 +27,10 @@ line_of t = take (prefix_len in_line t) t
 abbrev pub after_line : List ℕ → List ℕ
 after_line t = drop (prefix_len in_line t + 1) t
 
--- a byte put in front of the first part
-abbrev pub onto : ℕ → List (List ℕ) → List (List ℕ)
-onto b [] = (b ∷ []) ∷ []
-onto b (p ∷ ps) = (b ∷ p) ∷ ps
-
 -- the lines of a text, each ended by LF; the last needs none
 unfoldable pub lines_of : List ℕ → List (List ℕ)
 lines_of [] = []
-lines_of (b ∷ bs) = cond (in_line b) (onto b (lines_of bs)) ([] ∷ lines_of bs)
+lines_of (b ∷ bs) = cond (in_line b) (onto_first b (lines_of bs)) ([] ∷ lines_of bs)
 
 -- without the blanks at the end
 abbrev pub trimmed_end : List ℕ → List ℕ
@@ -57,13 +52,13 @@ begins (b ∷ bs) = in_field b
 -- the fields of a line, parted by blanks: a byte that is no blank stands in one field with the next if that is no blank either
 unfoldable pub fields_of : List ℕ → List (List ℕ)
 fields_of [] = []
-fields_of (b ∷ bs) = cond (blank b) (fields_of bs) (cond (begins bs) (onto b (fields_of bs)) ((b ∷ []) ∷ fields_of bs))
+fields_of (b ∷ bs) = cond (blank b) (fields_of bs) (cond (begins bs) (onto_first b (fields_of bs)) ((b ∷ []) ∷ fields_of bs))
 
 -- what lent fields hold
 abbrev pub texts : List (Bor (List ℕ)) → List (List ℕ)
 texts fs = map (λ f. f.now) fs
 
 -- a field by its number, from 1
-unfoldable pub field_of : List (List ℕ) → ℕ → Option (List ℕ)
+abbrev pub field_of : List (List ℕ) → ℕ → Option (List ℕ)
 field_of fs zero = None
 field_of fs (suc n) = slice_get fs n

@@ -5,4 +5,4 @@ mod field;
 mod line;
 
 pub use field::{fields, nth_field};
-pub use line::{is_passed_over, next_line, starts_with, trim};
+pub use line::{Lines, is_passed_over, next_line, starts_with, trim};

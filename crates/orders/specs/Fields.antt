@@ -69,7 +69,7 @@ via (Place n) = place n
 via (Named i) = named i
 
 -- `@` and a place, or an id
-unfoldable pub parent_of : List ℕ → Option Via
+abbrev pub parent_of : List ℕ → Option Via
 parent_of t = cond (starts 64 t) (option_map place (decimal_of (drop 1 t))) (option_map named (from_hex t))
 
 abbrev pub chosen : Bool → Option (Unit {0})

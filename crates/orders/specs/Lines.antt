@@ -40,12 +40,12 @@ said order.Later = later
 abbrev pub Gives : Result Said Malformed → Result Order Fault → Type 0
 Gives q (Ok o) = q ≡ Ok (said o)
 Gives q (Err (Line m)) = q ≡ Err m
-Gives q (Err Memory) = Unit {0}
+Gives q (Err (Memory e)) = Unit {0}
 
 abbrev pub Parents : Result (List Via) Malformed → Result (Vec Parent Global) Fault → Type 0
 Parents q (Ok v) = q ≡ Ok (map via (vec_items v))
 Parents q (Err (Line m)) = q ≡ Err m
-Parents q (Err Memory) = Unit {0}
+Parents q (Err (Memory e)) = Unit {0}
 
 -- commit ID GENERATION DATE [PARENT...]
 abbrev pub commit_line : List (List ℕ) → Result Said Malformed

@@ -1,8 +1,10 @@
-ghost use Rattle.std.specs.Prelude.{◌≡◌};
+ghost use Rattle.std.specs.Prelude.{◌≡◌, Some};
 ghost use Rattle.orders.specs.Fields.{words_for};
 
+use std::fmt;
+
 /// What a field of a line was expected to be.
-#[derive(Clone, Copy)]
+#[derive(Clone, Copy, PartialEq, Eq, Debug)]
 pub enum Expected {
     AWord,
     AnId,
@@ -38,8 +40,16 @@ impl Expected {
     }
 }
 
+impl fmt::Display for Expected {
+    ghost output = { λ e. Some (words_for e) };
+
+    fn fmt<W: fmt::Write>(&self, f: &mut fmt::Formatter<W>) -> fmt::Result {
+        f.write_str(self.words())
+    }
+}
+
 /// Why a line is malformed: the first field, by its number from 1, that is not what was expected there.
-#[derive(Clone, Copy)]
+#[derive(Clone, Copy, PartialEq, Eq, Debug)]
 pub struct Malformed {
     pub field: usize,
     pub expected: Expected,

@@ -1,7 +1,9 @@
 // What the lines of a bundle say: orders for a history, or the first field that is not as expected.
 #![tactic(auto)]
 
+mod describing;
 mod expected;
+mod from_text;
 mod number;
 mod order;
 mod parent;

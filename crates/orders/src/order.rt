@@ -2,7 +2,7 @@ use crate::parent::Parent;
 use ancestry::Id;
 
 /// A commit that a line offers to the history.
-#[derive(Drop)]
+#[derive(Drop, PartialEq, Eq, Debug)]
 pub struct Offer {
     pub id: Id,
     pub generation: Option<u32>,
@@ -11,7 +11,7 @@ pub struct Offer {
 }
 
 /// What a line asks for.
-#[derive(Drop)]
+#[derive(Drop, PartialEq, Eq, Debug)]
 pub enum Order {
     /// To take the commit in.
     Commit(Offer),

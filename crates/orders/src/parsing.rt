@@ -2,25 +2,25 @@ ghost use Rattle.std.specs.Prelude.{◌≡◌, drop};
 ghost use Rattle.lines.specs.Bytes.{texts};
 ghost use Rattle.orders.specs.Fields.{each_on, parent_of};
 ghost use Rattle.orders.specs.Lines.{said, Gives, Parents, line, commit_line, name_line, plain_line, find_line, read_line, parent_line, ids_line, describe_line};
+ghost use Rattle.std.specs.declared.alloc.AllocError.{AllocError};
 ghost use Rattle.orders.specs.declared.parsing.Fault.TheVariants.{Line, Memory};
 
+use crate::describing::DescribeOption;
 use crate::expected::{Expected, Malformed};
 use crate::order::{Offer, Order};
 use crate::parent::Parent;
-use crate::readers::{
-    date_at, end_at, generation_at, id_at, number_at, options, other_ids, parent_at, text_at,
-    word_at,
-};
+use crate::readers::{check_from, end_at, fields_from, read_at, read_text, text_at};
 use crate::words::Word;
+use ancestry::Id;
 use std::alloc::{AllocError, AllocFailed, Global};
 
 /// Why a line gives no order.
-#[derive(Drop)]
+#[derive(Drop, PartialEq, Eq, Debug)]
 pub enum Fault {
     /// The line is malformed.
     Line(Malformed),
     /// There is no memory for what it says.
-    Memory,
+    Memory(AllocError),
 }
 
 impl From<Malformed> for Fault {
@@ -32,10 +32,10 @@ impl From<Malformed> for Fault {
 }
 
 impl<T: Drop> From<AllocFailed<T>> for Fault {
-    ghost from_gives = { λ _ r. r ≡ Memory };
+    ghost from_gives = { λ _ r. (e : AllocError) × (r ≡ Memory e) };
 
-    fn from(_refused: AllocFailed<T>) -> Fault {
-        Fault::Memory
+    fn from(failed: AllocFailed<T>) -> Fault {
+        Fault::Memory(AllocError::from(failed))
     }
 }
 
@@ -43,7 +43,7 @@ impl<T: Drop> From<AllocFailed<T>> for Fault {
 pub fn parse(heap: Global, fields: &[&[u8]]) -> Result<Order, Fault>
     ensures { Gives (line (texts fields.now)) result }
 {
-    match word_at(fields, 1)? {
+    match read_at(fields, 1, Expected::AWord)? {
         Word::Commit => commit(heap, fields),
         Word::Name => name(fields),
         Word::Count => plain(fields, Order::Count),
@@ -51,8 +51,7 @@ pub fn parse(heap: Global, fields: &[&[u8]]) -> Result<Order, Fault>
         Word::Find => find(fields),
         Word::Read => read(fields),
         Word::Parent => parent(fields),
-        Word::MergeBase => ids(fields),
-        Word::Octopus => ids(fields),
+        Word::MergeBase | Word::Octopus => ids(fields),
         Word::Describe => describe(fields),
     }
 }
@@ -61,9 +60,9 @@ pub fn parse(heap: Global, fields: &[&[u8]]) -> Result<Order, Fault>
 fn commit(heap: Global, fields: &[&[u8]]) -> Result<Order, Fault>
     ensures { Gives (commit_line (texts fields.now)) result }
 {
-    let id = id_at(fields, 2)?;
-    let generation = generation_at(fields, 3)?;
-    let date = date_at(fields, 4)?;
+    let id = read_at(fields, 2, Expected::AnId)?;
+    let generation = read_at(fields, 3, Expected::AGeneration)?;
+    let date = read_at(fields, 4, Expected::ADate)?;
     let parents = parents(heap, fields)?;
     Ok(Order::Commit(Offer {
         id,
@@ -78,10 +77,8 @@ fn parents(heap: Global, fields: &[&[u8]]) -> Result<Vec<Parent>, Fault>
     ensures { Parents (each_on parent_of Expected.AParent 5 (drop 4 (texts fields.now))) result }
 {
     let mut parents = Vec::new(heap);
-    let mut number = 5;
-    while number <= fields.len() {
-        parents.push(parent_at(fields, number)?)?;
-        number += 1;
+    for (index, text) in fields_from(fields, 5).iter().enumerate() {
+        parents.push(read_text(text, 5 + index, Expected::AParent)?)?;
     }
     Ok(parents)
 }
@@ -90,7 +87,7 @@ fn parents(heap: Global, fields: &[&[u8]]) -> Result<Vec<Parent>, Fault>
 fn name(fields: &[&[u8]]) -> Result<Order, Fault>
     ensures { Gives (name_line (texts fields.now)) result }
 {
-    let id = id_at(fields, 2)?;
+    let id = read_at(fields, 2, Expected::AnId)?;
     text_at(fields, 3, Expected::AName)?;
     end_at(fields, 4)?;
     Ok(Order::Name(id))
@@ -108,7 +105,7 @@ fn plain(fields: &[&[u8]], order: Order) -> Result<Order, Fault>
 fn find(fields: &[&[u8]]) -> Result<Order, Fault>
     ensures { Gives (find_line (texts fields.now)) result }
 {
-    let id = id_at(fields, 2)?;
+    let id = read_at(fields, 2, Expected::AnId)?;
     end_at(fields, 3)?;
     Ok(Order::Find(id))
 }
@@ -117,7 +114,7 @@ fn find(fields: &[&[u8]]) -> Result<Order, Fault>
 fn read(fields: &[&[u8]]) -> Result<Order, Fault>
     ensures { Gives (read_line (texts fields.now)) result }
 {
-    let place = number_at(fields, 2, Expected::APlace)?;
+    let place = read_at(fields, 2, Expected::APlace)?;
     end_at(fields, 3)?;
     Ok(Order::Read(place))
 }
@@ -126,8 +123,8 @@ fn read(fields: &[&[u8]]) -> Result<Order, Fault>
 fn parent(fields: &[&[u8]]) -> Result<Order, Fault>
     ensures { Gives (parent_line (texts fields.now)) result }
 {
-    let place = number_at(fields, 2, Expected::APlace)?;
-    let nth = number_at(fields, 3, Expected::ANumber)?;
+    let place = read_at(fields, 2, Expected::APlace)?;
+    let nth = read_at(fields, 3, Expected::ANumber)?;
     end_at(fields, 4)?;
     Ok(Order::Parent(place, nth))
 }
@@ -136,8 +133,8 @@ fn parent(fields: &[&[u8]]) -> Result<Order, Fault>
 fn ids(fields: &[&[u8]]) -> Result<Order, Fault>
     ensures { Gives (ids_line (texts fields.now)) result }
 {
-    id_at(fields, 2)?;
-    other_ids(fields)?;
+    read_at::<Id>(fields, 2, Expected::AnId)?;
+    check_from::<Id>(fields, 3, Expected::AnId)?;
     Ok(Order::Later)
 }
 
@@ -145,7 +142,7 @@ fn ids(fields: &[&[u8]]) -> Result<Order, Fault>
 fn describe(fields: &[&[u8]]) -> Result<Order, Fault>
     ensures { Gives (describe_line (texts fields.now)) result }
 {
-    id_at(fields, 2)?;
-    options(fields)?;
+    read_at::<Id>(fields, 2, Expected::AnId)?;
+    check_from::<DescribeOption>(fields, 3, Expected::AnOption)?;
     Ok(Order::Later)
 }

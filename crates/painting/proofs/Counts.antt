@@ -1,12 +1,14 @@
 -- The queue beside the marks, and what a turn costs.
-use Rattle.std.proofs.Common.{◌≡◌, ℕ, ◌+◌, ◌-◌, ◌<◌, ◌≤◌, Bool, true, false, cond, eqb, List, [], ◌∷◌, length, set, is_some, Some, None, sum_by, Option, sym, refl, ap, ◌∙◌, subst, ⊎_elim, arith, length-set}
+use Rattle.std.proofs.Common.{◌≡◌, ℕ, ◌+◌, ◌<◌, ◌≤◌, Bool, true, false, cond, eqb, List, [], ◌∷◌, length, set, is_ok, is_some, Some, None, Ok, Err, sum_by, Option, Result, sym, refl, ap, ◌∙◌, subst, ⊎_elim, arith, length-set}
 use Rattle.std.specs.List.Sorted.{IsPermutation}
+use Rattle.std.specs.List.{AllByRecursion}
 use Rattle.std.proofs.lemmas.List.{get_or-set_same, get_or-set_other, set_past}
 use Rattle.std.proofs.lemmas.List.Sums.{sum_by-set, sum_by-cons, get_or-le-sum_by}
 use Rattle.std.proofs.lemmas.List.Sorted.{sum_by-IsPermutation}
-use Rattle.std.proofs.lemmas.Bool.{both_ways, cases_eq, cases_lt, cases_Bool, eq-eqb, ne_eqb}
+use Rattle.std.proofs.lemmas.Bool.{both_ways, cases_eq, cases_lt, cases_Bool, false≢true, eq-eqb, ne_eqb}
 use Rattle.std.proofs.lemmas.Bool.Decides.{nat_tests}
 use Rattle.ancestry.specs.Commits.{Commit, at}
+use Rattle.ancestry.specs.declared.refusal.Refusal.{Refusal}
 use Rattle.painting.proofs.Turns.{mark_past}
 use Rattle.painting.specs.Entries.{occurs}
 use Rattle.painting.specs.Marks.{blank, mark, covers, joined, told, settled, lively, waits, cost, total, hand, hand_all, settle, turn}
@@ -15,7 +17,7 @@ use Rattle.painting.specs.declared.marks.Mark.{Mark}
 use Rattle.painting.specs.declared.marks.Told.{Told}
 use Rattle.queue.proofs.Waiting.{length_taken, length_put}
 use Rattle.queue.specs.Kinds.{beats}
-use Rattle.queue.specs.Queues.{waiting, room, Whole, Taken}
+use Rattle.queue.specs.Queues.{waiting, room, Whole, Inserted, Taken}
 use Rattle.queue.specs.declared.kinds.Keyed.{Keyed}
 use Rattle.queue.specs.declared.lent.Queue.{Queue}
 
@@ -69,7 +71,7 @@ pub record Moves (ms : List Mark) (q q' : Queue Keyed) (r : ℕ) (n : Mark) : Ty
   pub there : (p : ℕ) → (p ≡ r → ⊥) → occurs p (waiting q') ≡ occurs p (waiting q)
   pub count : length (waiting q') + waits (mark ms r) ≡ length (waiting q) + waits n
 
-pub kept_set : (ms : List Mark) (q q' : Queue Keyed) (live live' r : ℕ) (n : Mark) → Kept ms q live → r < length ms → Whole beats q' → room q' ≡ room q → Moves ms q q' r n → live' + lively (mark ms r) ≡ live + lively n → Kept (set ms r n) q' live'
+kept_set : (ms : List Mark) (q q' : Queue Keyed) (live live' r : ℕ) (n : Mark) → Kept ms q live → r < length ms → Whole beats q' → room q' ≡ room q → Moves ms q q' r n → live' ≡ total lively (set ms r n) → Kept (set ms r n) q' live'
 kept_set ms q q' live live' r n k l w rm mv lv = record {
   whole = w;
   space = omega (arith, length-set ms r n, k.space);
@@ -79,7 +81,7 @@ kept_set ms q q' live live' r n k l w rm mv lv = record {
       (λ (e : p ≡ r → ⊥). mv.there p e ∙ k.tied p ∙ ap waits (sym (get_or-set_other ms r p n blank e)))
       (cases_eq p r);
   count = omega (arith, total-set waits ms r n l, mv.count, k.count);
-  alive = omega (arith, total-set lively ms r n l, lv, k.alive);
+  alive = lv;
 }
 
 pub waits_one : (m : Mark) → m.waiting ≡ true → waits m ≡ 1
@@ -155,8 +157,8 @@ lively_one m w s = rw (w, s)
 pub idle : (ms : List Mark) → total lively ms ≡ 0 → (p : ℕ) → (mark ms p).waiting ≡ true → (mark ms p).stale ≡ true
 idle ms z p w = ⊎_elim (λ (e : (mark ms p).stale ≡ true). e) (λ (e : (mark ms p).stale ≡ false). absurd (omega (arith, z, total_has lively ms p (waiting_inside ms p w), lively_one (mark ms p) w e))) (cases_Bool (mark ms p).stale)
 
-pub live_most : (ms : List Mark) (q : Queue Keyed) (live : ℕ) → Kept ms q live → live ≤ length ms
-live_most ms q live k = omega (arith, k.alive, alive_waits ms, waits_most ms)
+pub total_lively : (ms : List Mark) → total lively ms ≤ length ms
+total_lively ms = omega (arith, alive_waits ms, waits_most ms)
 
 pub lively_most : (m : Mark) → lively m ≤ 1
 lively_most m = omega (arith, lively-waits m, waits-le m)
@@ -169,55 +171,44 @@ pub hand_no : (t : Told) (r : ℕ) (ms : List Mark) → covers (mark ms r) t ≡
 unfolding hand
 hand_no t r ms e = rw e
 
-live_left : (ms : List Mark) (q : Queue Keyed) (live r : ℕ) (n : Mark) → Kept ms q live → r < length ms → ((live + lively n) - lively (mark ms r)) + lively (mark ms r) ≡ live + lively n
-live_left ms q live r n k l = omega (arith, total_has lively ms r l, k.alive)
+-- what an insertion that was accepted puts into the queue
+pub inserted : {A : Type 0} (e : Keyed) (q q' : Queue Keyed) (o : Result A Refusal) → Inserted e q o q' → is_ok o ≡ true → IsPermutation (e ∷ waiting q) (waiting q')
+inserted e q q' (Ok a) h k = h.1
+inserted e q q' (Err f) h k = absurd (false≢true k)
 
 -- a place told that did not wait
-pub kept_put : (ms : List Mark) (q q' : Queue Keyed) (live r : ℕ) (n : Mark) (e : Keyed) → Kept ms q live → r < length ms → (mark ms r).waiting ≡ false → n.waiting ≡ true
-    → Whole beats q' → room q' ≡ room q → IsPermutation (e ∷ waiting q) (waiting q') → e.place ≡ r → Kept (set ms r n) q' ((live + lively n) - lively (mark ms r))
-kept_put ms q q' live r n e k l w wn wh rm s pl = kept_set ms q q' live ((live + lively n) - lively (mark ms r)) r n k l wh rm (moves_put ms q q' r n e s pl w wn) (live_left ms q live r n k l)
+pub kept_put : (ms ns : List Mark) (q q' : Queue Keyed) (live live' r : ℕ) (n : Mark) (e : Keyed) → Kept ms q live → r < length ms → (mark ms r).waiting ≡ false → n.waiting ≡ true
+    → Whole beats q' → room q' ≡ room q → IsPermutation (e ∷ waiting q) (waiting q') → e.place ≡ r → ns ≡ set ms r n → live' ≡ total lively ns → Kept ns q' live'
+kept_put ms ns q q' live live' r n e k l w wn wh rm s pl is lv = subst (λ (x : List Mark). Kept x q' live') (sym is) (kept_set ms q q' live live' r n k l wh rm (moves_put ms q q' r n e s pl w wn) (lv ∙ ap (total lively) is))
 
 -- a place told that waited
-pub kept_same : (ms : List Mark) (q : Queue Keyed) (live r : ℕ) (n : Mark) → Kept ms q live → r < length ms → (mark ms r).waiting ≡ true → n.waiting ≡ true
-    → Kept (set ms r n) q ((live + lively n) - lively (mark ms r))
-kept_same ms q live r n k l w wn = kept_set ms q q live ((live + lively n) - lively (mark ms r)) r n k l k.whole refl (moves_same ms q r n w wn) (live_left ms q live r n k l)
+pub kept_same : (ms ns : List Mark) (q : Queue Keyed) (live live' r : ℕ) (n : Mark) → Kept ms q live → r < length ms → (mark ms r).waiting ≡ true → n.waiting ≡ true
+    → ns ≡ set ms r n → live' ≡ total lively ns → Kept ns q live'
+kept_same ms ns q live live' r n k l w wn is lv = subst (λ (x : List Mark). Kept x q live') (sym is) (kept_set ms q q live live' r n k l k.whole refl (moves_same ms q r n w wn) (lv ∙ ap (total lively) is))
 
 -- a place taken
-pub kept_taken : (ms : List Mark) (q q' : Queue Keyed) (live : ℕ) (e : Keyed) → Kept ms q live → Whole beats q' → room q' ≡ room q → IsPermutation (waiting q) (e ∷ waiting q')
-    → Kept (settle e.place ms) q' (live - lively (mark ms e.place))
-unfolding settle
-kept_taken ms q q' live e k wh rm s =
+pub kept_taken : (ms ns : List Mark) (q q' : Queue Keyed) (live live' : ℕ) (e : Keyed) (n : Mark) → Kept ms q live → Whole beats q' → room q' ≡ room q → IsPermutation (waiting q) (e ∷ waiting q')
+    → n.waiting ≡ false → ns ≡ set ms e.place n → live' ≡ total lively ns → Kept ns q' live'
+kept_taken ms ns q q' live live' e n k wh rm s wn is lv =
     let w = taken-waits ms q (waiting q') live e k s in
     let l = waiting_inside ms e.place w in
-    let z : lively (settled (mark ms e.place)) ≡ 0 = refl in
-    kept_set ms q q' live (live - lively (mark ms e.place)) e.place (settled (mark ms e.place)) k l wh rm (moves_taken ms q q' (settled (mark ms e.place)) e s w refl) (omega (arith, total_has lively ms e.place l, k.alive))
+    subst (λ (x : List Mark). Kept x q' live') (sym is) (kept_set ms q q' live live' e.place n k l wh rm (moves_taken ms q q' n e s w wn) (lv ∙ ap (total lively) is))
 
-pub kept_at : (ms : List Mark) (q q' : Queue Keyed) (a b : ℕ) → Kept ms q a → q' ≡ q → b ≡ a → Kept ms q' b
-kept_at ms q q' a b k e d = subst (λ (x : Queue Keyed). Kept ms x b) (sym e) (subst (λ (x : ℕ). Kept ms q x) (sym d) k)
+-- while something waits the queue gives one of the best
+pub taken_some : (q q' : Queue Keyed) (o : Option Keyed) → 0 < length (waiting q) → Taken beats q o q' → is_some o ≡ true
+taken_some q q' None l h = absurd (omega (arith, ap length h.0))
+taken_some q q' (Some x) l h = refl
+
+pub took_best : (q q' : Queue Keyed) (o : Option Keyed) (x : Keyed) → Taken beats q o q' → o ≡ Some x → IsPermutation (waiting q) (x ∷ waiting q') × AllByRecursion (λ y. beats y x ≡ false) (waiting q)
+took_best q q' o x h e = subst (λ (y : Option Keyed). Taken beats q y q') e h
 
 -- while some place is alive the queue gives one
 pub take_some : (ms : List Mark) (q q' : Queue Keyed) (live : ℕ) (o : Option Keyed) → Kept ms q live → 0 < live → Taken beats q o q' → is_some o ≡ true
-take_some ms q q' live None k l h = absurd (omega (arith, k.alive, alive_waits ms, k.count, ap length h.0))
-take_some ms q q' live (Some x) k l h = refl
+take_some ms q q' live o k l h = taken_some q q' o (omega (arith, k.alive, alive_waits ms, k.count)) h
 
-pub kept_put_back : (ms : List Mark) (p : ℕ) (n : Mark) (q : Queue Keyed) (live x : ℕ) → n ≡ settled (mark ms p) → x ≡ lively (mark ms p) → Kept (settle p ms) q (live - lively (mark ms p)) → Kept (set ms p n) q (live - x)
-unfolding settle
-kept_put_back ms p n q live x e d k = subst (λ (m : Mark). Kept (set ms p m) q (live - x)) (sym e) (subst (λ (y : ℕ). Kept (set ms p (settled (mark ms p))) q (live - y)) (sym d) k)
-
-pub turn_is : (H G : List Commit) (p : ℕ) (ms l : List Mark) (n : Mark) (t : Told) → G ≡ H → n ≡ settled (mark ms p) → t ≡ told (mark ms p) → l ≡ hand_all t (at G p).parents (set ms p n) → l ≡ turn H p ms
+turn_is : (H G : List Commit) (p : ℕ) (ms l : List Mark) (n : Mark) (t : Told) → G ≡ H → n ≡ settled (mark ms p) → t ≡ told (mark ms p) → l ≡ hand_all t (at G p).parents (set ms p n) → l ≡ turn H p ms
 unfolding turn settle
 turn_is H G p ms l n t s e d h = h ∙ ap (λ (x : List Commit). hand_all t (at x p).parents (set ms p n)) s ∙ ap (λ (x : Mark). hand_all t (at H p).parents (set ms p x)) e ∙ ap (λ (x : Told). hand_all x (at H p).parents (set ms p (settled (mark ms p)))) d
-
-pub kept_marks : (ms ns : List Mark) (q : Queue Keyed) (live : ℕ) → ns ≡ ms → Kept ms q live → Kept ns q live
-kept_marks ms ns q live e k = subst (λ (x : List Mark). Kept x q live) (sym e) k
-
-pub took_some : (q q' : Queue Keyed) (o : Option Keyed) (x : Keyed) → Taken beats q o q' → o ≡ Some x → IsPermutation (waiting q) (x ∷ waiting q')
-took_some q q' o x h e = (subst (λ (y : Option Keyed). Taken beats q y q') e h).0
-
--- what is left of the queue and of the count once a place is taken, over the marks as they were written
-pub kept_settled : (ms ns : List Mark) (p : ℕ) (m n : Mark) (q : Queue Keyed) (live x : ℕ) → m ≡ mark ms p → n ≡ settled m → x ≡ lively m → ns ≡ set ms p n → Kept (settle p ms) q (live - lively (mark ms p)) → Kept ns q (live - x)
-kept_settled ms ns p m n q live x a b d e k =
-    kept_marks (set ms p n) ns q (live - x) e (kept_put_back ms p n q live x (b ∙ ap settled a) (d ∙ ap lively a) k)
 
 -- the marks once a place is taken and its parents are told, as the code writes them
 pub turn_written : (H G : List Commit) (p : ℕ) (ms ns l : List Mark) (m n : Mark) (t : Told) → G ≡ H → m ≡ mark ms p → n ≡ settled m → t ≡ told m → ns ≡ set ms p n → l ≡ hand_all t (at G p).parents ns → l ≡ turn H p ms

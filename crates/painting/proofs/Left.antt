@@ -1,6 +1,6 @@
 -- What is left of the results: those that no other of the set reaches.
-use Rattle.std.proofs.Common.{◌≡◌, ℕ, ◌+◌, ◌<◌, ◌≤◌, Bool, true, false, cond, not, eqb, ◌⊎◌, List, [], ◌∷◌, ◌++◌, length, get_or, take, Some, sym, refl, ap, ◌∙◌, subst, ⊎_elim, arith}
-use Rattle.std.proofs.lemmas.List.{take_more, length-take-le, get_or-take}
+use Rattle.std.proofs.Common.{◌≡◌, ℕ, ◌+◌, ◌<◌, ◌≤◌, Bool, true, false, cond, not, eqb, ◌⊎◌, List, [], ◌∷◌, length, get_or, take, sym, ap, ◌∙◌, subst, ⊎_elim, arith}
+use Rattle.std.proofs.lemmas.List.{take_more}
 use Rattle.std.proofs.lemmas.Option.{slice_get-get_or}
 use Rattle.std.proofs.lemmas.Bool.{both_ways, cases_eq, cases_Bool, and_parts, and_from, eqb-true, not-true}
 use Rattle.ancestry.specs.Sets.{member, keep}
@@ -13,41 +13,17 @@ use Rattle.ancestry.proofs.Reach.{Reaches-trans, reaches_sound}
 use Rattle.ancestry.proofs.Sets.{member-keep}
 use Rattle.ancestry.proofs.Tallies.{member-cons}
 use Rattle.ancestry.proofs.Unique.{member-nil, best_law}
+use Rattle.painting.specs.Bits.{flags}
 use Rattle.painting.specs.Entries.{times}
-use Rattle.painting.specs.Marks.{mark, left, appended}
+use Rattle.painting.specs.Marks.{mark, left}
 use Rattle.painting.specs.Painted.{Painted}
-use Rattle.painting.specs.Walks.{walk_of, level, Done, Fresh, Tracked, Bests}
+use Rattle.painting.specs.Walks.{Walk, level, Done, Fresh, Tracked, Bests}
 use Rattle.painting.specs.declared.marks.Mark.{Mark}
 use Rattle.painting.proofs.Notes.{times-cons}
 use Rattle.painting.proofs.Parents.{nth_member}
 use Rattle.painting.proofs.Steps.{member_end}
 
 -- KEEPING SOME OF A LIST
-pub keep_end : (t : ℕ → Bool) (ps : List ℕ) (p : ℕ) → keep t (ps ++ p ∷ []) ≡ keep t ps ++ keep t (p ∷ [])
-unfolding keep
-keep_end t [] p = refl
-keep_end t (q ∷ ps) p = go (t q) (keep_end t ps p)
-  where
-    go : (b : Bool) → keep t (ps ++ p ∷ []) ≡ keep t ps ++ keep t (p ∷ []) → cond b (q ∷ keep t (ps ++ p ∷ [])) (keep t (ps ++ p ∷ [])) ≡ cond b (q ∷ keep t ps) (keep t ps) ++ keep t (p ∷ [])
-    go true h = ap (λ (l : List ℕ). q ∷ l) h
-    go false h = h
-
-pub keep_more : (t : ℕ → Bool) (ps : List ℕ) (p : ℕ) → t p ≡ true → keep t (ps ++ p ∷ []) ≡ keep t ps ++ p ∷ []
-keep_more t ps p e = keep_end t ps p ∙ ap (λ (l : List ℕ). keep t ps ++ l) (one e)
-  where
-    one : t p ≡ true → keep t (p ∷ []) ≡ p ∷ []
-    one e = unfold keep in rw e
-
-pub keep_skip : (t : ℕ → Bool) (ps : List ℕ) (p : ℕ) → t p ≡ false → keep t (ps ++ p ∷ []) ≡ keep t ps
-keep_skip t ps p e = keep_end t ps p ∙ ap (λ (l : List ℕ). keep t ps ++ l) (none e) ∙ end (keep t ps)
-  where
-    none : t p ≡ false → keep t (p ∷ []) ≡ []
-    none e = unfold keep in rw e
-
-    end : (l : List ℕ) → l ++ [] ≡ l
-    end [] = refl
-    end (x ∷ l) = ap (λ (k : List ℕ). x ∷ k) (end l)
-
 keep-times : (t : ℕ → Bool) (p : ℕ) (ps : List ℕ) → times p (keep t ps) ≤ times p ps
 unfolding keep
 keep-times t p [] = omega arith
@@ -57,27 +33,20 @@ keep-times t p (q ∷ ps) = go (t q) (keep-times t p ps)
     go true h = omega (arith, times-cons p q (keep t ps), times-cons p q ps)
     go false h = omega (arith, times-cons p q ps)
 
+keep-length : (t : ℕ → Bool) (ps : List ℕ) → length (keep t ps) ≤ length ps
+unfolding keep
+keep-length t [] = omega arith
+keep-length t (q ∷ ps) = go (t q) (keep-length t ps)
+  where
+    go : (b : Bool) → length (keep t ps) ≤ length ps → length (cond b (q ∷ keep t ps) (keep t ps)) ≤ length (q ∷ ps)
+    go true h = omega arith
+    go false h = omega arith
+
 keep_in : (t : ℕ → Bool) (p : ℕ) (ps : List ℕ) → member p ps ≡ true → t p ≡ true → member p (keep t ps) ≡ true
 keep_in t p ps m e = member-keep t p ps ∙ and_from (member p ps) (t p) m e
 
 keep_out : (t : ℕ → Bool) (p : ℕ) (ps : List ℕ) → member p (keep t ps) ≡ true → (member p ps ≡ true) × (t p ≡ true)
 keep_out t p ps m = and_parts (member p ps) (t p) (sym (member-keep t p ps) ∙ m)
-
--- a loop that keeps some of a list
-pub keep_none : (t : ℕ → Bool) → ◌≡◌ {A = List ℕ} [] (keep t [])
-unfolding keep
-keep_none t = refl
-
-pub keep_append : (t : ℕ → Bool) (ks ps : List ℕ) (i x : ℕ) (b : Bool) → i < length ps → x ≡ get_or ps i 0 → b ≡ t x → ks ≡ keep t (take i ps) → appended b x ks ≡ keep t (take (i + 1) ps)
-unfolding appended
-keep_append t ks ps i x b l e h k = go b h ∙ ap (keep t) (ap (λ (y : ℕ). take i ps ++ y ∷ []) e ∙ sym (take_more ps i 0 l))
-  where
-    go : (b : Bool) → b ≡ t x → cond b (ks ++ x ∷ []) ks ≡ keep t (take i ps ++ x ∷ [])
-    go true h = ap (λ (y : List ℕ). y ++ x ∷ []) k ∙ sym (keep_more t (take i ps) x (sym h))
-    go false h = k ∙ sym (keep_skip t (take i ps) x (sym h))
-
-pub taken-member : (ps : List ℕ) (i n x : ℕ) → i < n → n ≤ length ps → get_or ps i 0 ≡ x → member x (take n ps) ≡ true
-taken-member ps i n x l h e = nth_member (take n ps) i x (slice_get-get_or (take n ps) i 0 (omega (arith, length-take-le n ps h)) ∙ ap Some (get_or-take n ps i 0 l ∙ e))
 
 -- a mark of a place above which no result is known
 left_from : (m : Mark) → m.stale ≡ false → m.met ≡ false → left m ≡ true
@@ -184,18 +153,25 @@ keep_inside n ms ps qs e h p m = h p (keep_out (λ p. left (mark ms p)) p ps (su
 pub keep_fresh : (ms : List Mark) (ps qs : List ℕ) → qs ≡ keep (λ p. left (mark ms p)) ps → Fresh qs ms
 keep_fresh ms ps qs e p m = (left_parts (mark ms p) (keep_out (λ p. left (mark ms p)) p ps (subst (λ (l : List ℕ). member p l ≡ true) e m)).1).0
 
+pub keep_fewer : (ms : List Mark) (ps qs : List ℕ) → qs ≡ keep (λ p. left (mark ms p)) ps → length qs ≤ length ps
+keep_fewer ms ps qs e = omega (arith, ap length e, keep-length (λ p. left (mark ms p)) ps)
+
+-- the marks as they are lent, under another name
+pub keep_at : (ps qs l ms : List ℕ) → l ≡ ms → qs ≡ keep (λ p. left (mark (flags l) p)) ps → qs ≡ keep (λ p. left (mark (flags ms) p)) ps
+keep_at ps qs l ms e k = k ∙ ap (λ (x : List ℕ). keep (λ p. left (mark (flags x) p)) ps) e
+
 pub bests_one : (H : List Commit) → Lawful H → (S : ℕ → Bool) (ms : List Mark) (ps qs : List ℕ) → qs ≡ keep (λ p. left (mark ms p)) ps → length qs ≤ 1 → Painted H S ms ps → Bests H S qs
 bests_one H L S ms ps qs e few P = subst (Bests H S) (sym e) (one_left H L S ms ps P (subst (λ (l : List ℕ). length l ≤ 1) e few))
 
-pub bests_from : (H H₁ H₂ : List Commit) → Lawful H → H₁ ≡ H → H₂ ≡ H → (S : ℕ → Bool) (ms m₁ m₂ : List Mark) (ps qs rs : List ℕ) (low d : ℕ) (st₁ st₂ : List ℕ)
-    → qs ≡ keep (λ p. left (mark ms p)) ps → rs ≡ keep (λ p. left (mark m₂ p)) qs → ((p : ℕ) → member p qs ≡ true → low ≤ level H p)
-    → Tracked H₁ low qs qs (walk_of m₁ st₁ d)
-    → ((rs bs : List ℕ) → Tracked H₂ low rs bs (walk_of m₁ st₁ d) → Tracked H₂ low rs bs (walk_of m₂ st₂ 0))
+pub bests_from : (H H₁ H₂ : List Commit) → Lawful H → H₁ ≡ H → H₂ ≡ H → (S : ℕ → Bool) (ms : List Mark) (w₁ w₂ : Walk) (ps qs rs : List ℕ) (low : ℕ)
+    → qs ≡ keep (λ p. left (mark ms p)) ps → rs ≡ keep (λ p. left (mark w₂.marks p)) qs → ((p : ℕ) → member p qs ≡ true → low ≤ level H p)
+    → Tracked H₁ low qs qs w₁ → ((rs bs : List ℕ) → Tracked H₂ low rs bs w₁ → Tracked H₂ low rs bs w₂) → w₂.stack ≡ []
     → Painted H S ms ps → Bests H S rs
-bests_from H H₁ H₂ L e₁ e₂ S ms m₁ m₂ ps qs rs low d st₁ st₂ q r least start walk P =
+bests_from H H₁ H₂ L e₁ e₂ S ms w₁ w₂ ps qs rs low q r least start walk over P =
     let fk : List ℕ = keep (λ p. left (mark ms p)) ps in
-    let t₁ : Tracked H low fk fk (walk_of m₁ st₁ d) = subst (λ (l : List ℕ). Tracked H low l l (walk_of m₁ st₁ d)) q (subst (λ (G : List Commit). Tracked G low qs qs (walk_of m₁ st₁ d)) e₁ start) in
-    let go : (rs bs : List ℕ) → Tracked H low rs bs (walk_of m₁ st₁ d) → Tracked H low rs bs (walk_of m₂ st₂ 0) = subst (λ (G : List Commit). (rs bs : List ℕ) → Tracked G low rs bs (walk_of m₁ st₁ d) → Tracked G low rs bs (walk_of m₂ st₂ 0)) e₂ walk in
+    let t₁ : Tracked H low fk fk w₁ = subst (λ (l : List ℕ). Tracked H low l l w₁) q (subst (λ (G : List Commit). Tracked G low qs qs w₁) e₁ start) in
+    let go : (rs bs : List ℕ) → Tracked H low rs bs w₁ → Tracked H low rs bs w₂ = subst (λ (G : List Commit). (rs bs : List ℕ) → Tracked G low rs bs w₁ → Tracked G low rs bs w₂) e₂ walk in
+    let t₂ : Tracked H low fk fk (record { marks = w₂.marks; stack = [] }) = subst (λ (l : List ℕ). Tracked H low fk fk (record { marks = w₂.marks; stack = l })) over (go fk fk t₁) in
     let least' : (p : ℕ) → member p fk ≡ true → low ≤ level H p = subst (λ (l : List ℕ). (p : ℕ) → member p l ≡ true → low ≤ level H p) q least in
-    let e : rs ≡ keep (λ p. left (mark m₂ p)) fk = r ∙ ap (keep (λ p. left (mark m₂ p))) q in
-    subst (Bests H S) (sym e) (bests_left H L S ms ps P low m₂ least' (go fk fk t₁))
+    let e : rs ≡ keep (λ p. left (mark w₂.marks p)) fk = r ∙ ap (keep (λ p. left (mark w₂.marks p))) q in
+    subst (Bests H S) (sym e) (bests_left H L S ms ps P low w₂.marks least' t₂)

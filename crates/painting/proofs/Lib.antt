@@ -2,11 +2,14 @@ pub mod Codes
 pub mod Shows
 pub mod Turns
 pub mod Counts
+pub mod Going
 pub mod Parents
 pub mod Seeds
 pub mod Notes
 pub mod Steps
 pub mod Meets
+pub mod Descending
+pub mod Keeping
 pub mod Left
 pub mod Listed
 pub mod Heads

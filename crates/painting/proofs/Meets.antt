@@ -1,12 +1,11 @@
 -- What the code of the walk does, step by step.
-use Rattle.std.proofs.Common.{◌≡◌, ℕ, zero, suc, ◌+◌, ◌<◌, ◌≤◌, true, false, ltb, List, [], ◌∷◌, length, take, set, Some, Option, sym, refl, ap, ◌∙◌, add-one, arith}
+use Rattle.std.proofs.Common.{◌≡◌, ℕ, zero, suc, ◌+◌, ◌<◌, ◌≤◌, true, false, ltb, List, [], ◌∷◌, ◌++◌, length, take, set, Some, Option, sym, refl, ap, ◌∙◌, add-one, arith}
 use Rattle.std.specs.List.{slice_get}
-use Rattle.std.proofs.lemmas.List.{take_more_set}
 use Rattle.std.proofs.lemmas.Bool.{or_left, or_right, or_from, lt-ltb, le-ltb}
 use Rattle.ancestry.specs.Commits.{Commit}
 use Rattle.painting.proofs.Counts.{total-set}
 use Rattle.painting.specs.Marks.{mark, seen, unmet, total}
-use Rattle.painting.specs.Walks.{Walk, walk_of, level, meet, meet_all}
+use Rattle.painting.specs.Walks.{Walk, level, meet, meet_all}
 use Rattle.painting.specs.declared.marks.Mark.{Mark}
 
 pub meet_met : (H : List Commit) (low r : ℕ) (w : Walk) → (mark w.marks r).met ≡ true → w ≡ meet H low r w
@@ -17,21 +16,16 @@ pub meet_below : (H : List Commit) (low r : ℕ) (w : Walk) → level H r < low 
 unfolding meet
 meet_below H low r w l = rw (or_right (mark w.marks r).met (ltb (level H r) low) (lt-ltb (level H r) low l)) refl
 
-pub meet-push : (H : List Commit) (low r : ℕ) (ms : List Mark) (st : List ℕ) (d : ℕ) (n : Mark) → d < length st → (mark ms r).met ≡ false → low ≤ level H r → n ≡ seen (mark ms r) → walk_of (set ms r n) (set st d r) (d + 1) ≡ meet H low r (walk_of ms st d)
+pub meet-push : (H : List Commit) (low r : ℕ) (ms : List Mark) (st : List ℕ) (n : Mark) → (mark ms r).met ≡ false → low ≤ level H r → n ≡ seen (mark ms r)
+    → ◌≡◌ {A = Walk} (record { marks = set ms r n; stack = st ++ r ∷ [] }) (meet H low r (record { marks = ms; stack = st }))
 unfolding meet
-meet-push H low r ms st d n l f b e = rw (or_from (mark ms r).met (ltb (level H r) low) f (le-ltb (level H r) low b)) (pair (ap (set ms r) e) (take_more_set st d r l))
-  where
-    pair : {a b : List Mark} {x y : List ℕ} → a ≡ b → x ≡ y → ◌≡◌ {A = Walk} (record { marks = a; stack = x }) (record { marks = b; stack = y })
-    pair p q = cc
+meet-push H low r ms st n f b e = rw (or_from (mark ms r).met (ltb (level H r) low) f (le-ltb (level H r) low b), e) refl
 
-pub room-push : (r d : ℕ) (ms : List Mark) (n : Mark) → r < length ms → (mark ms r).met ≡ false → n ≡ seen (mark ms r) → (d + 1) + total unmet (set ms r n) ≡ d + total unmet ms
-room-push r d ms n l f e =
+pub unmet-push : (r : ℕ) (ms : List Mark) (n : Mark) → r < length ms → (mark ms r).met ≡ false → n ≡ seen (mark ms r) → total unmet (set ms r n) + 1 ≡ total unmet ms
+unmet-push r ms n l f e =
     let a : unmet (mark ms r) ≡ 1 = rw f refl in
     let b : unmet n ≡ 0 = ap unmet e in
     omega (arith, total-set unmet ms r n l)
-
-pub room_some : (r : ℕ) (ms : List Mark) → r < length ms → (mark ms r).met ≡ false → 0 < total unmet ms
-room_some r ms l f = omega (arith, room-push r 0 ms (seen (mark ms r)) l f refl)
 
 some_is : (a b : ℕ) → ◌≡◌ {A = Option ℕ} (Some a) (Some b) → a ≡ b
 some_is a b e = cc

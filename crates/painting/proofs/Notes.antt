@@ -1,6 +1,6 @@
 -- The results beside the marks, and what painting leaves.
-use Rattle.std.proofs.Common.{◌≡◌, ℕ, suc, ◌+◌, ◌<◌, ◌≤◌, Bool, true, false, cond, not, ◌&&◌, ◌||◌, eqb, List, [], ◌∷◌, ◌++◌, length, take, set, sym, refl, ap, ◌∙◌, subst, ⊎_elim, arith, length-append, length-set}
-use Rattle.std.proofs.lemmas.List.{get_or-set_same, get_or-set_other, take_more_set}
+use Rattle.std.proofs.Common.{◌≡◌, ℕ, suc, ◌+◌, ◌<◌, ◌≤◌, Bool, true, false, cond, not, ◌&&◌, ◌||◌, eqb, List, [], ◌∷◌, ◌++◌, length, set, sym, refl, ap, ◌∙◌, subst, ⊎_elim, arith, length-append, length-set}
+use Rattle.std.proofs.lemmas.List.{get_or-set_same, get_or-set_other}
 use Rattle.std.proofs.lemmas.List.Sums.{sum_by-cons}
 use Rattle.std.proofs.lemmas.Bool.{both_ways, cases_eq, cases_lt, and_parts, and_from, eqb-true, eq-eqb, ne_eqb, not-true}
 use Rattle.std.proofs.lemmas.Bool.Decides.{nat_tests}
@@ -10,8 +10,9 @@ use Rattle.ancestry.specs.Commits.{Commit, parents_of}
 use Rattle.ancestry.specs.Lawful.{Lawful}
 use Rattle.ancestry.proofs.Tallies.{member-cons}
 use Rattle.ancestry.proofs.Unique.{member_here, member_there, member-nil}
+use Rattle.painting.specs.Bits.{flags}
 use Rattle.painting.specs.Entries.{times}
-use Rattle.painting.specs.Marks.{blank, mark, told, newly, settled, lively, resulted, total, hand_all, settle, turn, appended}
+use Rattle.painting.specs.Marks.{blank, mark, told, newly, settled, lively, resulted, total, hand_all, settle, turn}
 use Rattle.painting.specs.Painted.{Noted, Down, Good, Painted, Unmet}
 use Rattle.painting.specs.Seeded.{ours, theirs, Blank, places_of, reached_by, meeting}
 use Rattle.painting.specs.declared.marks.Mark.{Mark}
@@ -82,42 +83,41 @@ settled_new m e = (go m.result (newly m) e, none m.result (not-true m.result (an
     none : (a : Bool) → a ≡ false → ◌≡◌ {A = ℕ} (cond a 1 0) 0
     none a e = rw e refl
 
-noted_settle : (ms : List Mark) (p : ℕ) (rs : List ℕ) → p < length ms → Noted ms rs → Noted (settle p ms) (appended (newly (mark ms p)) p rs)
-unfolding settle appended
-noted_settle ms p rs l k = go (newly (mark ms p)) refl
-  where
-    n : Mark
-    n = settled (mark ms p)
+noted_settle_new : (ms : List Mark) (p : ℕ) (rs : List ℕ) → p < length ms → newly (mark ms p) ≡ true → Noted ms rs → Noted (settle p ms) (rs ++ p ∷ [])
+unfolding settle
+noted_settle_new ms p rs l e k =
+    let n : Mark = settled (mark ms p) in
+    let s = settled_new (mark ms p) e in
+    let at_p : mark (set ms p n) p ≡ n = get_or-set_same ms p n blank l in
+    record {
+      once = λ x. times_end x p rs ∙ ⊎_elim
+          (λ (z : x ≡ p). subst (λ (y : ℕ). times y rs + cond (eqb p y) 1 0 ≡ resulted (mark (set ms p n) y)) (sym z) (omega (arith, k.once p, s.0, s.1, ap resulted at_p, here p p refl)))
+          (λ (z : x ≡ p → ⊥). omega (arith, k.once x, ap resulted (get_or-set_other ms p x n blank z), elsewhere p x (λ y. z (sym y))))
+          (cases_eq x p);
+      count = length-append rs (p ∷ []) ∙ (omega (arith, k.count, total-set resulted ms p n l, s.0, s.1));
+    }
 
-    away : (x : ℕ) → (x ≡ p → ⊥) → mark (set ms p n) x ≡ mark ms x
-    away x e = get_or-set_other ms p x n blank e
+noted_settle_old : (ms : List Mark) (p : ℕ) (rs : List ℕ) → p < length ms → newly (mark ms p) ≡ false → Noted ms rs → Noted (settle p ms) rs
+unfolding settle
+noted_settle_old ms p rs l e k =
+    let n : Mark = settled (mark ms p) in
+    let s = settled_old (mark ms p) e in
+    let at_p : mark (set ms p n) p ≡ n = get_or-set_same ms p n blank l in
+    record {
+      once = λ x. ⊎_elim
+          (λ (z : x ≡ p). subst (λ (y : ℕ). times y rs ≡ resulted (mark (set ms p n) y)) (sym z) (k.once p ∙ sym s ∙ ap resulted (sym at_p)))
+          (λ (z : x ≡ p → ⊥). k.once x ∙ ap resulted (sym (get_or-set_other ms p x n blank z)))
+          (cases_eq x p);
+      count = omega (arith, k.count, total-set resulted ms p n l, s);
+    }
 
-    at_p : mark (set ms p n) p ≡ n
-    at_p = get_or-set_same ms p n blank l
-
-    go : (b : Bool) → newly (mark ms p) ≡ b → Noted (set ms p n) (cond b (rs ++ p ∷ []) rs)
-    go true e =
-        let s = settled_new (mark ms p) e in
-        record {
-          once = λ x. times_end x p rs ∙ ⊎_elim
-              (λ (z : x ≡ p). subst (λ (y : ℕ). times y rs + cond (eqb p y) 1 0 ≡ resulted (mark (set ms p n) y)) (sym z) (omega (arith, k.once p, s.0, s.1, ap resulted at_p, here p p refl)))
-              (λ (z : x ≡ p → ⊥). omega (arith, k.once x, ap resulted (away x z), elsewhere p x (λ y. z (sym y))))
-              (cases_eq x p);
-          count = length-append rs (p ∷ []) ∙ (omega (arith, k.count, total-set resulted ms p n l, s.0, s.1));
-        }
-    go false e =
-        let s = settled_old (mark ms p) e in
-        record {
-          once = λ x. ⊎_elim
-              (λ (z : x ≡ p). subst (λ (y : ℕ). times y rs ≡ resulted (mark (set ms p n) y)) (sym z) (k.once p ∙ sym s ∙ ap resulted (sym at_p)))
-              (λ (z : x ≡ p → ⊥). k.once x ∙ ap resulted (sym (away x z)))
-              (cases_eq x p);
-          count = omega (arith, k.count, total-set resulted ms p n l, s);
-        }
-
-pub noted_turn : (H : List Commit) (p : ℕ) (ms : List Mark) (rs : List ℕ) → p < length ms → Noted ms rs → Noted (turn H p ms) (appended (newly (mark ms p)) p rs)
+pub noted_new : (H : List Commit) (p : ℕ) (ms : List Mark) (rs : List ℕ) → p < length ms → newly (mark ms p) ≡ true → Noted ms rs → Noted (turn H p ms) (rs ++ p ∷ [])
 unfolding turn
-noted_turn H p ms rs l k = noted_hand_all (told (mark ms p)) (parents_of H p) (settle p ms) (appended (newly (mark ms p)) p rs) (noted_settle ms p rs l k)
+noted_new H p ms rs l e k = noted_hand_all (told (mark ms p)) (parents_of H p) (settle p ms) (rs ++ p ∷ []) (noted_settle_new ms p rs l e k)
+
+pub noted_old : (H : List Commit) (p : ℕ) (ms : List Mark) (rs : List ℕ) → p < length ms → newly (mark ms p) ≡ false → Noted ms rs → Noted (turn H p ms) rs
+unfolding turn
+noted_old H p ms rs l e k = noted_hand_all (told (mark ms p)) (parents_of H p) (settle p ms) rs (noted_settle_old ms p rs l e k)
 
 pub unmet-turn : (H : List Commit) (p : ℕ) (ms : List Mark) → Unmet ms → Unmet (turn H p ms)
 unfolding turn settle
@@ -139,15 +139,6 @@ room_noted ms p rs l k e =
     let s = settled_new (mark ms p) e in
     let n : Mark = settled (mark ms p) in
     omega (arith, k.count, total-set resulted ms p n l, s.0, s.1, resulted_most (set ms p n), length-set ms p n)
-
--- appending one: what the code writes
-pub appended_more : (p n : ℕ) (ps : List ℕ) (b : Bool) → n < length ps → b ≡ true → take (n + 1) (set ps n p) ≡ appended b p (take n ps)
-unfolding appended
-appended_more p n ps b l e = rw e (take_more_set ps n p l)
-
-pub appended_same : (p : ℕ) (ps : List ℕ) (b : Bool) → b ≡ false → ps ≡ appended b p ps
-unfolding appended
-appended_same p ps b e = rw e refl
 
 -- THE END
 is_one : (b : Bool) → 0 < cond b 1 0 → b ≡ true
@@ -187,6 +178,10 @@ painted_from H G L S fs ps ms ns ms' rs e len len' inf inp is b start k z notes 
     let k' : (A B : ℕ → Bool) → Down H A → Down H B → Good H A B ns → Good H A B ms' = subst (λ (X : List Commit). (A B : ℕ → Bool) → Down X A → Down X B → Good X A B ns → Good X A B ms') e k in
     let go : Good H (reached_by H fs) (reached_by H ps) ns = subst (Good H (reached_by H fs) (reached_by H ps)) (sym start) (good_start H L fs ps inf inp ms len b) in
     painted_by H L (reached_by H fs) (reached_by H ps) S ms' rs len' is (k' (reached_by H fs) (reached_by H ps) (down_places H L fs inf) (down_places H L ps inp) go) z notes u
+
+-- the marks as they are lent, under the name that they have once the painter is gone
+pub painted_at : (H : List Commit) (S : ℕ → Bool) (rs ms l : List ℕ) → l ≡ ms → Painted H S (flags ms) rs → Painted H S (flags l) rs
+painted_at H S rs ms l e p = subst (λ (x : List ℕ). Painted H S (flags x) rs) (sym e) p
 
 pub shared_is : (H : List Commit) (f : ℕ) (zs : List ℕ) (p : ℕ) → shared H f zs p ≡ (reached_by H (places_of H (f ∷ [])) p && reached_by H (places_of H zs) p)
 unfolding shared

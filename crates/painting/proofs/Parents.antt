@@ -1,16 +1,12 @@
 -- Parents by number, and all of them told one by one.
-use Rattle.std.proofs.Common.{◌≡◌, ℕ, zero, suc, ◌+◌, ◌<◌, true, List, [], ◌∷◌, length, take, is_some, Some, Option, sym, refl, ap, ◌∙◌, subst, add-one, arith}
+use Rattle.std.proofs.Common.{◌≡◌, ℕ, zero, suc, ◌+◌, true, List, [], ◌∷◌, take, Some, Option, sym, refl, ap, ◌∙◌, subst, add-one, arith}
 use Rattle.std.specs.List.{slice_get}
-use Rattle.std.proofs.lemmas.Option.{slice_get-get_or}
 use Rattle.ancestry.proofs.Unique.{member_here, member_there}
 use Rattle.ancestry.specs.Commits.{Commit, at}
 use Rattle.ancestry.specs.Sets.{member}
 use Rattle.painting.specs.Marks.{hand, hand_all}
 use Rattle.painting.specs.declared.marks.Mark.{Mark}
 use Rattle.painting.specs.declared.marks.Told.{Told}
-
-pub nth_some : (xs : List ℕ) (n : ℕ) → n < length xs → is_some (slice_get xs n) ≡ true
-nth_some xs n l = ap is_some (slice_get-get_or xs n 0 l)
 
 some_is : (a b : ℕ) → ◌≡◌ {A = Option ℕ} (Some a) (Some b) → a ≡ b
 some_is a b e = cc
@@ -36,9 +32,3 @@ hand_all_more t rs n r ms l e h = ap (hand t r) h ∙ step t rs n r ms e ∙ ap 
 -- the same list of commits under another name
 pub parent_is : (H G : List Commit) (p n r : ℕ) (o : Option ℕ) → G ≡ H → o ≡ slice_get (at G p).parents n → o ≡ Some r → slice_get (at H p).parents n ≡ Some r
 parent_is H G p n r o s e f = ap (λ (x : List Commit). slice_get (at x p).parents n) (sym s) ∙ sym e ∙ f
-
-pub parent_some : (H G : List Commit) (p n : ℕ) (o : Option ℕ) → G ≡ H → o ≡ slice_get (at G p).parents n → n < length (at H p).parents → is_some o ≡ true
-parent_some H G p n o s e l = ap is_some (e ∙ ap (λ (x : List Commit). slice_get (at x p).parents n) s) ∙ nth_some (at H p).parents n l
-
-pub count_is : (H G : List Commit) (p k : ℕ) → G ≡ H → k ≡ length (at H p).parents → k ≡ length (at G p).parents
-count_is H G p k s e = e ∙ ap (λ (x : List Commit). length (at x p).parents) (sym s)

@@ -1,6 +1,6 @@
 -- Where painting starts, and what it leaves.
-use Rattle.std.proofs.Common.{◌≡◌, ℕ, zero, suc, ◌+◌, ◌<◌, ◌≤◌, Bool, true, false, ◌||◌, List, [], ◌∷◌, ◌++◌, length, get_or, take, Some, None, Option, sym, refl, ap, ◌∙◌, subst, ⊎_elim, add-one, arith}
-use Rattle.std.proofs.lemmas.Bool.{false≢true, true≢false, cases_lt, or_cases, eqb-true}
+use Rattle.std.proofs.Common.{◌≡◌, ℕ, zero, suc, ◌+◌, ◌<◌, ◌≤◌, Bool, true, false, ◌||◌, List, [], ◌∷◌, ◌++◌, length, get_or, take, replicate, Some, None, Option, sym, refl, ap, ◌∙◌, subst, ⊎_elim, add-one, arith}
+use Rattle.std.proofs.lemmas.Bool.{false≢true, true≢false, or_cases, eqb-true}
 use Rattle.ancestry.specs.Sets.{any, member}
 use Rattle.ancestry.specs.Commits.{Commit, place_of}
 use Rattle.ancestry.specs.Lawful.{Lawful}
@@ -10,19 +10,20 @@ use Rattle.ancestry.proofs.Join.{place_says}
 use Rattle.ancestry.proofs.Reach.{Reaches-trans, reaches_complete, reaches_itself, reaches_sound}
 use Rattle.ancestry.proofs.Sets.{any_intro, any_elim}
 use Rattle.ancestry.proofs.Tallies.{member-cons}
-use Rattle.ancestry.proofs.Unique.{member-nil}
+use Rattle.ancestry.proofs.Unique.{member_here, member_there, member-nil}
 use Rattle.queue.specs.Kinds.{beats}
 use Rattle.queue.specs.Queues.{waiting, room, Whole}
 use Rattle.queue.specs.declared.kinds.Keyed.{Keyed}
 use Rattle.queue.specs.declared.lent.Queue.{Queue}
+use Rattle.painting.specs.Bits.{flags}
 use Rattle.painting.specs.Entries.{times, occurs}
 use Rattle.painting.specs.Marks.{blank, mark, joined, told, lively, waits, resulted, total, hand, hand_all}
 use Rattle.painting.specs.Painted.{Kept, Noted, Covers, Closed, Sound, Down, Good, Unmet}
-use Rattle.painting.specs.Seeded.{ours, theirs, Blank, with_found, places_of, reached_by}
+use Rattle.painting.specs.Seeded.{ours, theirs, Blank, with_found, places_by, places_of, reached_by}
 use Rattle.painting.specs.declared.marks.Mark.{Mark}
 use Rattle.painting.specs.declared.marks.Told.{Told}
 use Rattle.painting.proofs.Counts.{total-cons}
-use Rattle.painting.proofs.Turns.{hand_all_keeps, hand_all-grown, hand_all-covers, length-hand_all, mark_past}
+use Rattle.painting.proofs.Turns.{hand_all_keeps, hand_all-grown, hand_all-covers, length-hand_all}
 
 -- a sum over marks that each count 0
 pub total_none : (f : Mark → ℕ) (ms : List Mark) → ((p : ℕ) → f (mark ms p) ≡ 0) → total f ms ≡ 0
@@ -43,11 +44,18 @@ kept_blank ms q b w e r = record {
   alive = sym (total_none lively ms (λ p. ap lively (b p)));
 }
 
-pub blank_past : (ms : List Mark) (n : ℕ) → length ms ≤ n → ((k : ℕ) → k < n → mark ms k ≡ blank) → Blank ms
-blank_past ms n l h p = ⊎_elim (λ (k : p < n). h p k) (λ (k : n ≤ p). mark_past ms p (omega arith)) (cases_lt p n)
+-- marks that were cleared
+zero_mark : (n p : ℕ) → mark (flags (replicate n 0)) p ≡ blank
+unfolding flags
+zero_mark zero p = refl
+zero_mark (suc n) zero = refl
+zero_mark (suc n) (suc p) = zero_mark n p
 
--- THE PLACES OF IDS. Telling lists that follow one another is telling their join.
-pub hand_all-append : (t : Told) (ps qs : List ℕ) (ms : List Mark) → hand_all t qs (hand_all t ps ms) ≡ hand_all t (ps ++ qs) ms
+pub blank_zeros : (n : ℕ) (ms : List ℕ) → ms ≡ replicate n 0 → Blank (flags ms)
+blank_zeros n ms e p = ap (λ (l : List ℕ). mark (flags l) p) e ∙ zero_mark n p
+
+-- THE PLACES OF SEEDS. Telling lists that follow one another is telling their join.
+hand_all-append : (t : Told) (ps qs : List ℕ) (ms : List Mark) → hand_all t qs (hand_all t ps ms) ≡ hand_all t (ps ++ qs) ms
 unfolding hand_all
 hand_all-append t [] qs ms = refl
 hand_all-append t (p ∷ ps) qs ms = hand_all-append t ps qs (hand t p ms)
@@ -56,37 +64,60 @@ found_append : (o : Option ℕ) (ps qs : List ℕ) → with_found o ps ++ qs ≡
 found_append None ps qs = refl
 found_append (Some p) ps qs = refl
 
-places_end : (H : List Commit) (is : List ℕ) (n : ℕ) (d : ℕ) → n < length is → places_of H ((take (suc n) is)) ≡ places_of H ((take n is)) ++ places_of H ((get_or is n d) ∷ [])
-unfolding places_of
-places_end H [] n d l = absurd (omega arith)
-places_end H (i ∷ is) zero d l = refl
-places_end H (i ∷ is) (suc n) d l =
-    ap (with_found (place_of H i)) (places_end H is n d (omega arith))
-    ∙ sym (found_append (place_of H i) (places_of H ((take n is))) (places_of H ((get_or is n d) ∷ [])))
+module _ {A : Type 0} (f : A → Option ℕ) where
+  places_end : (xs : List A) (n : ℕ) (x : A) → n < length xs → x ≡ get_or xs n x → places_by f (take (suc n) xs) ≡ places_by f (take n xs) ++ with_found (f x) []
+  unfolding places_by
+  places_end [] n x l e = absurd (omega arith)
+  places_end (y ∷ xs) zero x l e = ap (λ (z : A). with_found (f z) []) (sym e)
+  places_end (y ∷ xs) (suc n) x l e =
+      ap (with_found (f y)) (places_end xs n x (omega arith) e)
+      ∙ sym (found_append (f y) (places_by f (take n xs)) (with_found (f x) []))
 
--- one more id
-pub seed_more : (H : List Commit) (t : Told) (is : List ℕ) (n : ℕ) (d : ℕ) (ms l : List Mark) → n < length is → l ≡ hand_all t (places_of H ((take n is))) ms
-    → hand_all t (places_of H ((get_or is n d) ∷ [])) l ≡ hand_all t (places_of H ((take (n + 1) is))) ms
-seed_more H t is n d ms l h e =
-    ap (hand_all t (places_of H ((get_or is n d) ∷ []))) e
-    ∙ hand_all-append t (places_of H ((take n is))) (places_of H ((get_or is n d) ∷ [])) ms
-    ∙ ap (λ (x : List ℕ). hand_all t x ms) (sym (places_end H is n d h))
-    ∙ ap (λ (k : ℕ). hand_all t (places_of H ((take k is))) ms) (sym (add-one n))
+  -- one more seed
+  seed_more : (t : Told) (xs : List A) (n : ℕ) (x : A) (ms l : List Mark) → n < length xs → x ≡ get_or xs n x → l ≡ hand_all t (places_by f (take n xs)) ms
+      → hand_all t (with_found (f x) []) l ≡ hand_all t (places_by f (take (n + 1) xs)) ms
+  seed_more t xs n x ms l h e k =
+      ap (hand_all t (with_found (f x) [])) k
+      ∙ hand_all-append t (places_by f (take n xs)) (with_found (f x) []) ms
+      ∙ ap (λ (y : List ℕ). hand_all t y ms) (sym (places_end xs n x h e))
+      ∙ ap (λ (m : ℕ). hand_all t (places_by f (take m xs)) ms) (sym (add-one n))
 
-pub seed_none : (H : List Commit) (t : Told) (ms : List Mark) → ms ≡ hand_all t (places_of H []) ms
-unfolding hand_all places_of
-seed_none H t ms = refl
+  pub seed_none : (t : Told) (ms : List Mark) → ms ≡ hand_all t (places_by f []) ms
+  unfolding hand_all places_by
+  seed_none t ms = refl
 
-pub seed_found : (H : List Commit) (t : Told) (i p : ℕ) (ms l : List Mark) → place_of H i ≡ Some p → l ≡ hand t p ms → l ≡ hand_all t (places_of H (i ∷ [])) ms
-unfolding hand_all places_of
-seed_found H t i p ms l e h = rw e h
+  pub seed_found : (t : Told) (xs : List A) (n : ℕ) (x : A) (p : ℕ) (ms l l' : List Mark) → n < length xs → x ≡ get_or xs n x → f x ≡ Some p → l ≡ hand_all t (places_by f (take n xs)) ms
+      → l' ≡ hand t p l → l' ≡ hand_all t (places_by f (take (n + 1) xs)) ms
+  unfolding hand_all
+  seed_found t xs n x p ms l l' h e o k k' = k' ∙ ap (λ (q : Option ℕ). hand_all t (with_found q []) l) (sym o) ∙ seed_more t xs n x ms l h e k
 
-pub seed_absent : (H : List Commit) (t : Told) (i : ℕ) (ms : List Mark) → place_of H i ≡ None → ms ≡ hand_all t (places_of H (i ∷ [])) ms
-unfolding hand_all places_of
-seed_absent H t i ms e = rw e refl
+  pub seed_absent : (t : Told) (xs : List A) (n : ℕ) (x : A) (ms l : List Mark) → n < length xs → x ≡ get_or xs n x → f x ≡ None → l ≡ hand_all t (places_by f (take n xs)) ms
+      → l ≡ hand_all t (places_by f (take (n + 1) xs)) ms
+  unfolding hand_all
+  seed_absent t xs n x ms l h e o k = ap (λ (q : Option ℕ). hand_all t (with_found q []) l) (sym o) ∙ seed_more t xs n x ms l h e k
+
+  pub seed_member : (xs : List A) (n : ℕ) (x : A) (p : ℕ) → n < length xs → x ≡ get_or xs n x → f x ≡ Some p → member p (places_by f xs) ≡ true
+  unfolding places_by
+  seed_member [] n x p l e o = absurd (omega arith)
+  seed_member (y ∷ xs) zero x p l e o = subst (λ (q : Option ℕ). member p (with_found q (places_by f xs)) ≡ true) (sym o ∙ ap f e) (member_here p (places_by f xs))
+  seed_member (y ∷ xs) (suc n) x p l e o = later (f y) (seed_member xs n x p (omega arith) e o)
+    where
+      later : (q : Option ℕ) → member p (places_by f xs) ≡ true → member p (with_found q (places_by f xs)) ≡ true
+      later None m = m
+      later (Some r) m = member_there p r (places_by f xs) m
+
+pub places_ids : (H : List Commit) (is : List ℕ) → places_by (λ i. place_of H i) is ≡ places_of H is
+unfolding places_by
+places_ids H [] = refl
+places_ids H (i ∷ is) = ap (with_found (place_of H i)) (places_ids H is)
+
+pub places_places : (ps : List ℕ) → places_by Some ps ≡ ps
+unfolding places_by
+places_places [] = refl
+places_places (p ∷ ps) = ap (λ (l : List ℕ). p ∷ l) (places_places ps)
 
 pub places_inside : (H : List Commit) (is : List ℕ) (s : ℕ) → member s (places_of H is) ≡ true → s < length H
-unfolding places_of
+unfolding places_by
 places_inside H [] s m = absurd (member-nil s m)
 places_inside H (i ∷ is) s m = go (place_of H i) refl (places_inside H is s) m
   where
@@ -94,9 +125,23 @@ places_inside H (i ∷ is) s m = go (place_of H i) refl (places_inside H is s) m
     go None e h m = h m
     go (Some p) e h m = ⊎_elim (λ k. subst (λ (y : ℕ). y < length H) (sym (eqb-true s p k)) (place_says H i p e).0) h (member-cons s p (places_of H is) m)
 
+-- ids told, over the same list of commits under another name
+pub ids_inside : (H : List Commit) (is : List ℕ) (s : ℕ) → member s (places_by (λ i. place_of H i) is) ≡ true → s < length H
+ids_inside H is s m = places_inside H is s (subst (λ (l : List ℕ). member s l ≡ true) (places_ids H is) m)
+
+pub ids_told : (H G : List Commit) (t : Told) (is : List ℕ) (ms l : List Mark) → G ≡ H → l ≡ hand_all t (places_by (λ i. place_of G i) is) ms → l ≡ hand_all t (places_of H is) ms
+ids_told H G t is ms l e h = h ∙ ap (λ (ps : List ℕ). hand_all t ps ms) (ap (λ (X : List Commit). places_by (λ i. place_of X i) is) e ∙ places_ids H is)
+
+-- places told
+pub places_inside_too : (H : List Commit) (ps : List ℕ) → ((s : ℕ) → member s ps ≡ true → s < length H) → (s : ℕ) → member s (places_by Some ps) ≡ true → s < length H
+places_inside_too H ps h s m = h s (subst (λ (l : List ℕ). member s l ≡ true) (places_places ps) m)
+
+pub places_told : (t : Told) (ps qs : List ℕ) (ms l : List Mark) → qs ≡ ps → l ≡ hand_all t (places_by Some qs) ms → l ≡ hand_all t ps ms
+places_told t ps qs ms l e h = h ∙ ap (λ (xs : List ℕ). hand_all t xs ms) (places_places qs ∙ e)
+
 -- what the places of ids reach is what the ids reach
 pub ids_reach : (H : List Commit) (is : List ℕ) (p : ℕ) → reached_by H (places_of H is) p ≡ any (λ i. id_reaches H i p) is
-unfolding reached_by places_of any id_reaches reached_from
+unfolding reached_by places_by any id_reaches reached_from
 ids_reach H [] p = refl
 ids_reach H (i ∷ is) p = go (place_of H i) (ids_reach H is p)
   where

@@ -1,7 +1,6 @@
 -- What a history's answer says of a place that is there.
-use Rattle.std.proofs.Common.{◌≡◌, ℕ, ◌<◌, true, List, length, is_some, Some, None, Option, unwrap_or, refl, subst, arith}
+use Rattle.std.proofs.Common.{◌≡◌, ℕ, ◌<◌, true, List, length, is_some, Some, None, Option, refl, subst, arith}
 use Rattle.ancestry.specs.Commits.{Commit}
-use Rattle.ancestry.specs.Keys.{rank}
 use Rattle.history.specs.Meaning.{Reads, Tells}
 use Rattle.history.specs.declared.reader.Entry.{Entry}
 
@@ -11,8 +10,3 @@ entered H p o e s q = subst (Reads H p) q s
 pub shown : (H : List Commit) (p : ℕ) (o : Option Entry) → Reads H p o → p < length H → is_some o ≡ true
 shown H p None s l = absurd (omega arith)
 shown H p (Some e) s l = refl
-
-pub rank_is : (o : Option ℕ) → unwrap_or o 4294967295 ≡ rank o
-unfolding rank
-rank_is None = refl
-rank_is (Some g) = refl

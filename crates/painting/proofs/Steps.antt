@@ -1,6 +1,6 @@
 -- What the walk down from results keeps.
-use Rattle.std.proofs.Common.{◌≡◌, ℕ, ◌+◌, ◌-◌, ◌<◌, ◌≤◌, Bool, true, false, cond, ◌||◌, eqb, ltb, ◌⊎◌, List, [], ◌∷◌, ◌++◌, length, get_or, take, set, sym, refl, ap, ◌∙◌, subst, inl, inr, ⊎_elim, arith, length-set}
-use Rattle.std.proofs.lemmas.List.{get_or-set_same, get_or-set_other, take_more}
+use Rattle.std.proofs.Common.{◌≡◌, ℕ, ◌<◌, ◌≤◌, Bool, true, false, cond, ◌||◌, eqb, ltb, ◌⊎◌, List, [], ◌∷◌, ◌++◌, length, set, sym, refl, ap, ◌∙◌, subst, inl, inr, ⊎_elim, arith, length-set}
+use Rattle.std.proofs.lemmas.List.{get_or-set_same, get_or-set_other}
 use Rattle.std.proofs.lemmas.Bool.{both_ways, cases_eq, or_cases, or_left, or_right, eqb-true, ltb-true}
 use Rattle.std.proofs.lemmas.Bool.Decides.{nat_tests}
 use Rattle.ancestry.proofs.Join.{member-append}
@@ -14,7 +14,7 @@ use Rattle.ancestry.specs.Sets.{member}
 use Rattle.painting.proofs.Counts.{total-cons}
 use Rattle.painting.proofs.Turns.{set_keeps}
 use Rattle.painting.specs.Marks.{blank, mark, seen, unmet, total}
-use Rattle.painting.specs.Walks.{Walk, walk_of, level, meet, meet_all, Done, Beneath, Fresh, Tracked}
+use Rattle.painting.specs.Walks.{Walk, level, meet, meet_all, Done, Beneath, Fresh, Tracked}
 use Rattle.painting.specs.declared.marks.Mark.{Mark}
 
 pub member_end : (x y : ℕ) (ys : List ℕ) → member x (ys ++ y ∷ []) ≡ true → (member x ys ≡ true) ⊎ (x ≡ y)
@@ -178,19 +178,12 @@ stack_inside H L low p w v n l e h x m =
     ⊎_elim (h x) (λ (k : (member x (at H p).parents ≡ true) × ((mark (meet_all H low (at H p).parents w).marks x).met ≡ true)). L.inside p x l k.0)
     ((stepped_all H low (at H p).parents w (λ r i. omega (arith, L.inside p r l i))).stems x (subst (λ (u : Walk). member x u.stack ≡ true) e m))
 
-pub pop_is : (st : List ℕ) (d : ℕ) → 0 < d → d ≤ length st → take d st ≡ take (d - 1) st ++ get_or st (d - 1) 0 ∷ []
-pop_is st d l h = let e : d ≡ (d - 1) + 1 = omega arith in ap (λ (k : ℕ). take k st) e ∙ take_more st (d - 1) 0 (omega arith)
-
-pub pop_inside : (n : ℕ) (st : List ℕ) (d : ℕ) → 0 < d → d ≤ length st → ((x : ℕ) → member x (take d st) ≡ true → x < n) → (get_or st (d - 1) 0 < n) × ((x : ℕ) → member x (take (d - 1) st) ≡ true → x < n)
-pop_inside n st d l h k =
-    let e = pop_is st d l h in (
-      k (get_or st (d - 1) 0) (subst (λ (s : List ℕ). member (get_or st (d - 1) 0) s ≡ true) (sym e) (member_last (get_or st (d - 1) 0) (take (d - 1) st))),
-      λ x m. k x (subst (λ (s : List ℕ). member x s ≡ true) (sym e) (member_front x (get_or st (d - 1) 0) (take (d - 1) st) m)),
-    )
+pub popped : (n : ℕ) (st st' : List ℕ) (p : ℕ) → st ≡ st' ++ p ∷ [] → ((x : ℕ) → member x st ≡ true → x < n) → (p < n) × ((x : ℕ) → member x st' ≡ true → x < n)
+popped n st st' p e k = (
+  k p (subst (λ (s : List ℕ). member p s ≡ true) (sym e) (member_last p st')),
+  λ x m. k x (subst (λ (s : List ℕ). member x s ≡ true) (sym e) (member_front x p st' m)),
+)
 
 pub unmet_most : (ms : List Mark) → total unmet ms ≤ length ms
 unmet_most [] = unfold total in omega arith
 unmet_most (m ∷ ms) = let a = total-cons unmet m ms in let b : unmet m ≤ 1 = grind (arith, nat_tests) in omega (arith, unmet_most ms)
-
-pub ended : (H : List Commit) (low : ℕ) (rs bs : List ℕ) (ms : List Mark) (st : List ℕ) (d : ℕ) → d ≡ 0 → Tracked H low rs bs (walk_of ms st d) → Tracked H low rs bs (walk_of ms st 0)
-ended H low rs bs ms st d e t = subst (λ (k : ℕ). Tracked H low rs bs (walk_of ms st k)) e t

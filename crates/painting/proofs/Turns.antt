@@ -92,10 +92,6 @@ pub length-settle : (p : ℕ) (ms : List Mark) → length (settle p ms) ≡ leng
 unfolding settle
 length-settle p ms = length-set ms p (settled (mark ms p))
 
-pub length-turn : (H : List Commit) (p : ℕ) (ms : List Mark) → length (turn H p ms) ≡ length ms
-unfolding turn
-length-turn H p ms = length-hand_all (told (mark ms p)) (at H p).parents (settle p ms) ∙ length-settle p ms
-
 pub hand_all-grown : (t : Told) (rs : List ℕ) (ms : List Mark) (x : ℕ) → Grown (mark ms x) (mark (hand_all t rs ms) x)
 hand_all-grown t rs ms = hand_all_keeps (λ x m. Grown (mark ms x) m) t rs ms (λ r m _ g. grown_trans (mark ms r) m (joined m t) g (grown-joined m t)) (λ x. grown_same (mark ms x))
 

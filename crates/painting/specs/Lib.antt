@@ -2,6 +2,9 @@ pub mod Marks
 pub mod Bits
 pub mod Entries
 pub mod Painted
+pub mod Painters
 pub mod Seeded
 pub mod Walks
+pub mod Descents
 pub mod Lists
+pub mod Listings

@@ -1,5 +1,5 @@
 -- Marks of places, and what a turn of the painting makes of them.
-use Rattle.std.specs.Prelude.{ℕ, ◌+◌, Bool, true, false, cond, not, ◌&&◌, ◌||◌, List, [], ◌∷◌, ◌++◌, sum_by, slice_index_or, slice_set}
+use Rattle.std.specs.Prelude.{ℕ, ◌+◌, Bool, true, false, cond, not, ◌&&◌, ◌||◌, List, [], ◌∷◌, sum_by, slice_index_or, slice_set}
 use Rattle.ancestry.specs.Commits.{Commit, parents_of}
 use Rattle.painting.specs.declared.marks.Mark.{Mark}
 use Rattle.painting.specs.declared.marks.Told.{Told}
@@ -52,8 +52,12 @@ seen m = record { first = m.first; others = m.others; stale = m.stale; result = 
 abbrev pub left : Mark → Bool
 left m = not m.stale && not m.met
 
+-- the commit waits and is not stale
+abbrev pub alive : Mark → Bool
+alive m = m.waiting && not m.stale
+
 abbrev pub lively : Mark → ℕ
-lively m = cond (m.waiting && not m.stale) 1 0
+lively m = cond (alive m) 1 0
 
 abbrev pub waits : Mark → ℕ
 waits m = cond m.waiting 1 0
@@ -86,7 +90,3 @@ settle p ms = slice_set ms p (settled (mark ms p))
 -- the marks once a place is taken, and has told its parents
 unfoldable pub turn : List Commit → ℕ → List Mark → List Mark
 turn H p ms = hand_all (told (mark ms p)) (parents_of H p) (settle p ms)
-
--- a list with one place more, if it is to have it
-unfoldable pub appended : Bool → ℕ → List ℕ → List ℕ
-appended b p ps = cond b (ps ++ p ∷ []) ps

@@ -22,10 +22,14 @@ abbrev pub with_found : Option ℕ → List ℕ → List ℕ
 with_found None ps = ps
 with_found (Some p) ps = p ∷ ps
 
+-- the places that the test finds for a list; what it finds none for is passed over
+unfoldable pub places_by : {A : Type 0} → (A → Option ℕ) → List A → List ℕ
+places_by f [] = []
+places_by f (x ∷ xs) = with_found (f x) (places_by f xs)
+
 -- the places of ids; those that are not held are passed over
-unfoldable pub places_of : List Commit → List ℕ → List ℕ
-places_of H [] = []
-places_of H (i ∷ is) = with_found (place_of H i) (places_of H is)
+abbrev pub places_of : List Commit → List ℕ → List ℕ
+places_of H is = places_by (place_of H) is
 
 -- one of the places reaches p
 unfoldable pub reached_by : List Commit → List ℕ → ℕ → Bool

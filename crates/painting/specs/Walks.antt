@@ -1,5 +1,5 @@
 -- The walk down from the parents of results, and what it leaves of them.
-use Rattle.std.specs.Prelude.{◌≡◌, ℕ, ◌<◌, ◌≤◌, Bool, true, false, cond, ◌||◌, ◌⊎◌, List, [], ◌∷◌, ◌++◌, length, take, nat_lt, slice_set}
+use Rattle.std.specs.Prelude.{◌≡◌, ℕ, ◌<◌, ◌≤◌, Bool, true, false, cond, ◌||◌, ◌⊎◌, List, [], ◌∷◌, ◌++◌, length, nat_lt, slice_set}
 use Rattle.ancestry.specs.Sets.{member}
 use Rattle.ancestry.specs.Commits.{Commit, at, parents_of}
 use Rattle.ancestry.specs.Keys.{rank}
@@ -13,9 +13,6 @@ use Rattle.painting.specs.declared.marks.Mark.{Mark}
 pub record Walk : Type 0 where
   pub marks : List Mark
   pub stack : List ℕ
-
-abbrev pub walk_of : List Mark → List ℕ → ℕ → Walk
-walk_of ms s d = record { marks = ms; stack = take d s }
 
 abbrev pub level : List Commit → ℕ → ℕ
 level H p = rank (at H p).generation

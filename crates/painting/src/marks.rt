@@ -1,6 +1,6 @@
 // What is known of a place while the history is painted. Marks are lent as numbers, and read and written as flags here alone.
 ghost use Rattle.std.specs.Prelude.{◌≡◌, ◌<◌, length, if◌then◌else◌, slice_set};
-ghost use Rattle.painting.specs.Marks.{mark, covers, joined, told, settled, lively, newly, left, seen};
+ghost use Rattle.painting.specs.Marks.{mark, covers, joined, told, settled, alive, newly, left, seen};
 ghost use Rattle.painting.specs.Bits.{bits, of_bits, flags};
 
 const COMMIT1: u64 = 1;
@@ -16,7 +16,7 @@ const WAITING: u64 = 16;
 const MET: u64 = 32;
 
 /// The flags of a commit.
-#[derive(Clone, Copy)]
+#[derive(Clone, Copy, PartialEq, Eq, Debug)]
 pub struct Mark {
     /// The first commit reaches it.
     pub first: bool,
@@ -33,7 +33,7 @@ pub struct Mark {
 }
 
 /// What a commit tells its parents.
-#[derive(Clone, Copy)]
+#[derive(Clone, Copy, PartialEq, Eq, Debug)]
 pub struct Told {
     pub first: bool,
     pub others: bool,
@@ -45,39 +45,15 @@ pub(crate) fn get(marks: &[u64], place: usize) -> Mark
     requires { place < length marks.now }
     ensures { result ≡ mark (flags marks.now) place }
 {
-    of_bits(marks[place])
+    Mark::of_bits(marks[place])
 }
 
 /// Writes the mark of a place.
-pub(crate) fn put(marks: &mut [u64], place: usize, m: Mark)
+pub(crate) fn put(marks: &mut [u64], place: usize, mark: Mark)
     requires { place < length marks.old }
-    ensures { flags marks.new ≡ slice_set (flags marks.old) place m }
+    ensures { flags marks.new ≡ slice_set (flags marks.old) place mark }
 {
-    marks[place] = to_bits(m);
-}
-
-fn of_bits(bits: u64) -> Mark
-    ensures { result ≡ of_bits bits }
-{
-    Mark {
-        first: bits & COMMIT1 != 0,
-        others: bits & COMMIT2 != 0,
-        stale: bits & STALE != 0,
-        result: bits & RESULT != 0,
-        waiting: bits & WAITING != 0,
-        met: bits & MET != 0,
-    }
-}
-
-fn to_bits(m: Mark) -> u64
-    ensures { result ≡ bits m }
-{
-    bit(m.first, COMMIT1)
-        | bit(m.others, COMMIT2)
-        | bit(m.stale, STALE)
-        | bit(m.result, RESULT)
-        | bit(m.waiting, WAITING)
-        | bit(m.met, MET)
+    marks[place] = mark.to_bits();
 }
 
 fn bit(has: bool, flag: u64) -> u64
@@ -86,83 +62,98 @@ fn bit(has: bool, flag: u64) -> u64
     if has { flag } else { 0 }
 }
 
-/// Whether the mark has all that is told.
-pub(crate) fn covers(m: Mark, t: Told) -> bool
-    ensures { result ≡ covers m t }
-{
-    (m.first | !t.first) & (m.others | !t.others) & (m.stale | !t.stale)
-}
-
-/// The mark with what is told; its commit waits.
-pub(crate) fn joined(m: Mark, t: Told) -> Mark
-    ensures { result ≡ joined m t }
-{
-    Mark {
-        first: m.first | t.first,
-        others: m.others | t.others,
-        stale: m.stale | t.stale,
-        result: m.result,
-        waiting: true,
-        met: m.met,
+impl Mark {
+    fn of_bits(bits: u64) -> Mark
+        ensures { result ≡ of_bits bits }
+    {
+        Mark {
+            first: bits & COMMIT1 != 0,
+            others: bits & COMMIT2 != 0,
+            stale: bits & STALE != 0,
+            result: bits & RESULT != 0,
+            waiting: bits & WAITING != 0,
+            met: bits & MET != 0,
+        }
     }
-}
 
-/// What a commit with this mark tells its parents.
-pub(crate) fn passed_on(m: Mark) -> Told
-    ensures { result ≡ told m }
-{
-    Told {
-        first: m.first,
-        others: m.others,
-        stale: m.stale | m.first & m.others,
+    fn to_bits(self) -> u64
+        ensures { result ≡ bits self }
+    {
+        bit(self.first, COMMIT1)
+            | bit(self.others, COMMIT2)
+            | bit(self.stale, STALE)
+            | bit(self.result, RESULT)
+            | bit(self.waiting, WAITING)
+            | bit(self.met, MET)
     }
-}
 
-/// Whether a commit with this mark, once taken, is a result that was not noted before.
-pub(crate) fn newly(m: Mark) -> bool
-    ensures { result ≡ newly m }
-{
-    m.first & m.others & !m.stale & !m.result
-}
-
-/// The mark of a commit that was taken.
-pub(crate) fn settled(m: Mark) -> Mark
-    ensures { result ≡ settled m }
-{
-    Mark {
-        first: m.first,
-        others: m.others,
-        stale: m.stale,
-        result: m.result | newly(m),
-        waiting: false,
-        met: m.met,
+    /// Whether the mark has all that is told.
+    pub(crate) fn covers(self, told: Told) -> bool
+        ensures { result ≡ covers self told }
+    {
+        (self.first | !told.first) & (self.others | !told.others) & (self.stale | !told.stale)
     }
-}
 
-/// 1 for a commit that waits and is not stale.
-pub(crate) fn lively(m: Mark) -> usize
-    ensures { result ≡ lively m }
-{
-    if m.waiting & !m.stale { 1 } else { 0 }
-}
-
-/// The mark of a commit that was met on the way down from the results.
-pub(crate) fn seen(m: Mark) -> Mark
-    ensures { result ≡ seen m }
-{
-    Mark {
-        first: m.first,
-        others: m.others,
-        stale: m.stale,
-        result: m.result,
-        waiting: m.waiting,
-        met: true,
+    /// The mark with what is told; its commit waits.
+    pub(crate) fn joined(self, told: Told) -> Mark
+        ensures { result ≡ joined self told }
+    {
+        Mark {
+            first: self.first | told.first,
+            others: self.others | told.others,
+            stale: self.stale | told.stale,
+            waiting: true,
+            ..self
+        }
     }
-}
 
-/// Whether no result is known that reaches a child of the commit.
-pub(crate) fn left(m: Mark) -> bool
-    ensures { result ≡ left m }
-{
-    !m.stale & !m.met
+    /// What a commit with this mark tells its parents.
+    pub(crate) fn passed_on(self) -> Told
+        ensures { result ≡ told self }
+    {
+        Told {
+            first: self.first,
+            others: self.others,
+            stale: self.stale | self.first & self.others,
+        }
+    }
+
+    /// Whether a commit with this mark, once taken, is a result that was not noted before.
+    pub(crate) fn is_newly_result(self) -> bool
+        ensures { result ≡ newly self }
+    {
+        self.first & self.others & !self.stale & !self.result
+    }
+
+    /// The mark of a commit that was taken.
+    pub(crate) fn settled(self) -> Mark
+        ensures { result ≡ settled self }
+    {
+        Mark {
+            result: self.result | self.is_newly_result(),
+            waiting: false,
+            ..self
+        }
+    }
+
+    /// Whether the commit waits and is not stale.
+    pub(crate) fn is_alive(self) -> bool
+        ensures { result ≡ alive self }
+    {
+        self.waiting & !self.stale
+    }
+
+    /// The mark of a commit that was met on the way down from the results.
+    pub(crate) fn seen(self) -> Mark
+        ensures { result ≡ seen self }
+    {
+        Mark { met: true, ..self }
+    }
+
+    /// Whether no result is known that reaches a child of the commit.
+    pub(crate) fn is_left(self) -> bool
+        ensures { result ≡ left self }
+    {
+        !self.stale & !self.met
+    }
 }

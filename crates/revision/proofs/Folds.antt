@@ -1,5 +1,5 @@
 -- One more commit at a time: the bases of those so far reach all that they share.
-use Rattle.std.proofs.Common.{◌≡◌, ℕ, ◌+◌, ◌<◌, ◌≤◌, Bool, true, false, ◌&&◌, ◌||◌, eqb, List, [], ◌∷◌, ◌++◌, length, get_or, take, set, Some, None, sym, refl, ap, ◌∙◌, subst, ⊎_elim, arith}
+use Rattle.std.proofs.Common.{◌≡◌, ℕ, ◌+◌, ◌<◌, ◌≤◌, Bool, true, false, ◌&&◌, ◌||◌, eqb, List, [], ◌∷◌, ◌++◌, length, get_or, take, Some, None, sym, refl, ap, ◌∙◌, subst, ⊎_elim, arith}
 use Rattle.std.proofs.lemmas.List.{take_all, take_more}
 use Rattle.std.proofs.lemmas.Bool.{and_parts, and_from, eqb-true}
 use Rattle.std.proofs.lemmas.Bool.Decides.{nat_tests}
@@ -66,12 +66,11 @@ module _ (H : List Commit) (L : Lawful H) where
       turn false false d = refl
 
   -- the start
-  pub start_held : (f s : ℕ) (st : List ℕ) → place_of H f ≡ Some s → 0 < length st → Spans H f [] (take 1 (set st 0 s))
-  start_held f s [] e l = absurd (omega arith)
-  start_held f s (x ∷ st) e l = record {
+  pub start_held : (f s : ℕ) (before after : List ℕ) → place_of H f ≡ Some s → before ≡ [] → after ≡ before ++ s ∷ [] → Spans H f [] after
+  start_held f s before after e z p = subst (Spans H f []) (sym (p ∙ ap (λ (l : List ℕ). l ++ s ∷ []) z)) (record {
     inside = λ q m. ⊎_elim (λ (k : eqb q s ≡ true). subst (λ (y : ℕ). y < length H) (sym (eqb-true q s k)) (place_says H f s e).0) (λ (k : member q [] ≡ true). absurd (member-nil q k)) (member-cons q s [] m);
     spans = λ p _. one p;
-  }
+  })
     where
       one : (p : ℕ) → reached_by H (s ∷ []) p ≡ shared_by_all H f [] p
       one p = unfold reached_by in unfold any in unfold shared_by_all in unfold every in rw (id_reaches-at H f s p e) (go (reaches H s p))
@@ -108,11 +107,8 @@ folded_start H f ps s = record { spans = s; bests = λ l. absurd (omega arith) }
 pub folded_more : (H G : List Commit) → Lawful H → (f : ℕ) (is : List ℕ) (n : ℕ) (d : ℕ) (ps qs : List ℕ) → n < length is → G ≡ H → Folded H f (take n is) ps → Bests G (meeting G (get_or is n d) ps) qs → Folded H f (take (n + 1) is) qs
 folded_more H G L f is n d ps qs l e h b =
     let b' : Bests H (meeting H (get_or is n d) ps) qs = subst (λ (X : List Commit). Bests X (meeting X (get_or is n d) ps) qs) e b in
-    let z : (take (n + 1) is) ≡ (take n is) ++ (get_or is n d) ∷ [] = take_more is n d l in
+    let z : take (n + 1) is ≡ take n is ++ get_or is n d ∷ [] = take_more is n d l in
     subst (λ (zs : List ℕ). Folded H f zs qs) (sym z) (round_more H L f (get_or is n d) (take n is) ps qs h.spans b')
-
-pub spans_at : (H G : List Commit) (f : ℕ) (ps : List ℕ) → G ≡ H → Spans H f [] ps → Spans G f [] ps
-spans_at H G f ps e s = subst (λ (X : List Commit). Spans X f [] ps) (sym e) s
 
 pub folded_all : (H : List Commit) (f : ℕ) (is : List ℕ) (n : ℕ) (ps : List ℕ) → length is ≤ n → Folded H f (take n is) ps → Folded H f is ps
 folded_all H f is n ps l h = subst (λ (x : List ℕ). Folded H f x ps) (take_all n is l) h

@@ -2,7 +2,7 @@ ghost use Rattle.std.specs.Prelude.{◌≡◌, length, IfOk};
 ghost use Rattle.ancestry.specs.Asking.{space_of, denied, Listed, first_slot};
 ghost use Rattle.ancestry.specs.Intake.{unless};
 ghost use Rattle.ancestry.specs.Bases.{bases, octopus};
-ghost use Rattle.history.specs.Meaning.{Same};
+ghost use Rattle.history.specs.Unchanged.{Unchanged};
 ghost use Rattle.revision.specs.Owned.{sizes_of, needed, slots_of};
 
 use crate::merge_bases::function::merge_base;
@@ -29,12 +29,6 @@ impl OwnedWorkspace {
     pub fn for_count(heap: Global, count: usize) -> Result<OwnedWorkspace, AllocError>
         ensures { IfOk result (λ w. sizes_of w ≡ needed count) }
     {
-        let Some(thrice) = count.checked_mul(3) else {
-            return Err(AllocError);
-        };
-        let Some(entries) = thrice.checked_add(1_001) else {
-            return Err(AllocError);
-        };
         let none = Id::default();
         let entry = Keyed {
             generation: 0,
@@ -43,7 +37,7 @@ impl OwnedWorkspace {
             place: 0,
         };
         let marks = vec![in heap; 0u64; count]?;
-        let queue = vec![in heap; entry; entries]?;
+        let queue = vec![in heap; entry; 3 * count + 1_001]?;
         let stack = vec![in heap; 0usize; 2 * count]?;
         let answers = vec![in heap; none; count + 1]?;
         Ok(OwnedWorkspace {
@@ -60,7 +54,7 @@ impl OwnedWorkspace {
         history: &mut H,
     ) -> Result<OwnedWorkspace, AllocError>
         requires { H.whole history.old }
-        ensures same { Same H.whole H.commits H.room history.old history.new }
+        ensures same { Unchanged H.Reader history.old history.new }
         ensures answer { IfOk result (λ w. sizes_of w ≡ needed (H.room history.old)) }
     {
         OwnedWorkspace::for_count(heap, history.capacity())
@@ -74,7 +68,7 @@ impl OwnedWorkspace {
         others: &[Id],
     ) -> Result<usize, Refusal>
         requires { H.whole history.old }
-        ensures same { Same H.whole H.commits H.room history.old history.new }
+        ensures same { Unchanged H.Reader history.old history.new }
         ensures sizes { sizes_of self.new ≡ sizes_of self.old }
         ensures answer { result ≡ unless (denied (sizes_of self.old) (length (H.commits history.old)) (length others.now)) (length (bases (H.commits history.old) first others.now)) }
         ensures slots { Listed (bases (H.commits history.old) first others.now) (slots_of self.old) result (slots_of self.new) }
@@ -98,7 +92,7 @@ impl OwnedWorkspace {
         others: &[Id],
     ) -> Result<Option<Id>, Refusal>
         requires { H.whole history.old }
-        ensures same { Same H.whole H.commits H.room history.old history.new }
+        ensures same { Unchanged H.Reader history.old history.new }
         ensures sizes { sizes_of self.new ≡ sizes_of self.old }
         ensures answer { result ≡ unless (denied (sizes_of self.old) (length (H.commits history.old)) (length others.now)) (octopus (H.commits history.old) first others.now) }
         ensures slots { slots_of self.new ≡ first_slot (slots_of self.old) result }
@@ -122,7 +116,8 @@ impl OwnedWorkspace {
     }
 }
 
-// The question asked with these slices as its workspace.
+// The question asked with these slices as its workspace: over slices by themselves the check keeps their lengths, and in a struct
+// that is given away it does not.
 fn ask_bases<H: Reader>(
     history: &mut H,
     first: Id,
@@ -133,7 +128,7 @@ fn ask_bases<H: Reader>(
     answers: &mut [Id],
 ) -> Result<usize, Refusal>
     requires { H.whole history.old }
-    ensures same { Same H.whole H.commits H.room history.old history.new }
+    ensures same { Unchanged H.Reader history.old history.new }
     ensures answer { result ≡ unless (denied (space_of (length marks.old) (length queue.old) (length stack.old) (length answers.old)) (length (H.commits history.old)) (length others.now)) (length (bases (H.commits history.old) first others.now)) }
     ensures slots { Listed (bases (H.commits history.old) first others.now) answers.old result answers.new }
 {
@@ -145,7 +140,7 @@ fn ask_bases<H: Reader>(
     merge_base(history, first, others, space, answers)
 }
 
-// The question asked with these slices as its workspace.
+// The same for the base common to all.
 fn ask_common<H: Reader>(
     history: &mut H,
     first: Id,
@@ -156,7 +151,7 @@ fn ask_common<H: Reader>(
     answers: &mut [Id],
 ) -> Result<Option<Id>, Refusal>
     requires { H.whole history.old }
-    ensures same { Same H.whole H.commits H.room history.old history.new }
+    ensures same { Unchanged H.Reader history.old history.new }
     ensures answer { result ≡ unless (denied (space_of (length marks.old) (length queue.old) (length stack.old) (length answers.old)) (length (H.commits history.old)) (length others.now)) (octopus (H.commits history.old) first others.now) }
     ensures slots { answers.new ≡ first_slot answers.old result }
 {

@@ -1,4 +1,11 @@
+ghost use Rattle.std.specs.Prelude.{◌≡◌, ◌≤◌};
+ghost use Rattle.ancestry.specs.Asking.{space_of, denied};
+ghost use Rattle.ancestry.specs.Intake.{unless};
+
+use ancestry::Refusal;
 use queue::Keyed;
+
+const MAX_OTHERS: usize = 1_000;
 
 /// The memory that is lent to a question.
 ///
@@ -10,4 +17,33 @@ pub struct Workspace<'a> {
     pub marks: &'a mut [u64],
     pub queue: &'a mut [Keyed],
     pub stack: &'a mut [usize],
+}
+
+/// How much is lent to a question: marks, queue entries, stack places, answer slots.
+#[derive(Clone, Copy, PartialEq, Eq, Debug)]
+pub(crate) struct Sizes {
+    pub(crate) marks: usize,
+    pub(crate) queue: usize,
+    pub(crate) stack: usize,
+    pub(crate) answers: usize,
+}
+
+impl Sizes {
+    /// Refuses a question about merge bases with too many others, or in a history of too many commits for what is lent.
+    pub(crate) fn suffice(self, count: usize, others: usize) -> Result<(), Refusal>
+        requires { count ≤ 1000000 }
+        ensures { result ≡ unless (denied (space_of self.marks self.queue self.stack self.answers) count others) tt }
+    {
+        if others > MAX_OTHERS {
+            return Err(Refusal::TooManyOthers);
+        }
+        if self.marks < count
+            || self.queue < 3 * count + 1_001
+            || self.stack < 2 * count
+            || self.answers < count + 1
+        {
+            return Err(Refusal::WorkspaceShort);
+        }
+        Ok(())
+    }
 }

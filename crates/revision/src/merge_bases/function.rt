@@ -1,16 +1,13 @@
-ghost use Rattle.std.specs.Prelude.{◌≡◌, ℕ, ◌≤◌, List, length, take, drop};
+ghost use Rattle.std.specs.Prelude.{◌≡◌, length};
 ghost use Rattle.ancestry.specs.Asking.{space_of, denied, Listed, Stays};
 ghost use Rattle.ancestry.specs.Intake.{unless};
-ghost use Rattle.ancestry.specs.Bases.{bases, best, ids, shared};
-ghost use Rattle.history.specs.Meaning.{Same};
+ghost use Rattle.ancestry.specs.Bases.{bases};
+ghost use Rattle.history.specs.Unchanged.{Unchanged};
 
-use crate::merge_bases::ids::contains;
-use crate::merge_bases::lent::denied;
-use crate::workspace::Workspace;
+use crate::merge_bases::search::Search;
+use crate::workspace::{Sizes, Workspace};
 use ancestry::{Id, Refusal};
 use history::Reader;
-use painting::{list_best, paint_down_to_common, remove_redundant};
-use queue::Keyed;
 
 /// All merge bases of `first` against `others`, best key first: the best of the commits that `first` and at least one other
 /// reach. Their ids stand in the first of the `answers`, and their number is returned.
@@ -31,7 +28,7 @@ pub fn merge_base<H: Reader>(
     answers: &mut [Id],
 ) -> Result<usize, Refusal>
     requires { H.whole history.old }
-    ensures same { Same H.whole H.commits H.room history.old history.new }
+    ensures same { Unchanged H.Reader history.old history.new }
     ensures answer { result ≡ unless (denied (space_of (length space.entry.marks.now) (length space.entry.queue.now) (length space.entry.stack.now) (length answers.old)) (length (H.commits history.old)) (length others.now)) (length (bases (H.commits history.old) first others.now)) }
     ensures slots { Listed (bases (H.commits history.old) first others.now) answers.old result answers.new }
     ensures marks { Stays result space.entry.marks.now space.exit.0.now }
@@ -44,57 +41,17 @@ pub fn merge_base<H: Reader>(
         stack,
     } = space;
     let count = history.count();
-    if let Some(refusal) = denied(
-        count,
-        others.len(),
-        marks.len(),
-        queue.len(),
-        stack.len(),
-        answers.len(),
-    ) {
-        return Err(refusal);
-    }
-    if others.is_empty() || contains(others, first) {
+    let sizes = Sizes {
+        marks: marks.len(),
+        queue: queue.len(),
+        stack: stack.len(),
+        answers: answers.len(),
+    };
+    sizes.suffice(count, others.len())?;
+    if others.is_empty() || others.contains(&first) {
         answers[0] = first;
         return Ok(1);
     }
-    let (results, walk) = stack.split_at_mut(count);
-    let found = find_bases(
-        history,
-        first,
-        others,
-        &mut marks[0..count],
-        queue,
-        results,
-        walk,
-        answers,
-    );
-    Ok(found)
-}
-
-// The bases, where the history has to be walked.
-fn find_bases<H: Reader>(
-    history: &mut H,
-    first: Id,
-    others: &[Id],
-    marks: &mut [u64],
-    queue: &mut [Keyed],
-    results: &mut [usize],
-    walk: &mut [usize],
-    answers: &mut [Id],
-) -> usize
-    requires whole { H.whole history.old }
-    requires marks { length marks.old ≡ length (H.commits history.old) }
-    requires queue { length (H.commits history.old) ≤ length queue.old }
-    requires results { length (H.commits history.old) ≤ length results.old }
-    requires walk { length (H.commits history.old) ≤ length walk.old }
-    requires answers { length (H.commits history.old) ≤ length answers.old }
-    ensures same { Same H.whole H.commits H.room history.old history.new }
-    ensures few { result ≤ length (H.commits history.old) }
-    ensures written { take result answers.new ≡ ids (H.commits history.old) (best (H.commits history.old) (shared (H.commits history.old) first others.now)) }
-    ensures beyond { drop result answers.new ≡ drop result answers.old }
-{
-    let found = paint_down_to_common(history, first, others, marks, queue, results);
-    let kept = remove_redundant(history, marks, results, found, walk);
-    list_best(history, &results[0..kept], queue, answers)
+    let mut search = Search::new(marks, queue, stack, count);
+    Ok(search.find_bases(history, first, others, answers))
 }

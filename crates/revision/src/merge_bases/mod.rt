@@ -1,5 +1,5 @@
 // Merge bases.
 pub(crate) mod function;
 mod ids;
-mod lent;
 pub(crate) mod octopus;
+pub(crate) mod search;

@@ -1,61 +1,73 @@
-use Rattle.std.proofs.Common.{◌≡◌, List, [], ◌∷◌, length, sym, ap, ◌∙◌, subst, arith}
-use Rattle.ancestry.specs.Commits.{Commit}
+use Rattle.std.proofs.Common.{◌≡◌, List, [], ◌∷◌, length, sym, refl, ap, ◌∙◌, subst, arith, rules}
+use Rattle.ancestry.specs.Bases.{shared}
 use Rattle.history.proofs.Sames.{same_then}
 use Rattle.painting.specs.Bits.{flags}
+use Rattle.painting.specs.Listings.{listed}
 use Rattle.painting.specs.Marks.{hand_all}
-use Rattle.painting.specs.Painted.{Noted, Unmet}
+use Rattle.painting.specs.Painted.{Noted, Painted, Unmet}
 use Rattle.painting.specs.Seeded.{ours, theirs, places_of}
 use Rattle.painting.specs.declared.marks.Mark.{Mark}
 use Rattle.painting.proofs.Codes.{length-flags}
-use Rattle.painting.proofs.Notes.{painted_from, shared_is}
-use Rattle.painting.proofs.Seeds.{kept_blank, places_inside, noted_start, unmet_start}
+use Rattle.painting.proofs.Going.{goes_then}
+use Rattle.painting.proofs.Notes.{painted_from, painted_at, shared_is, few_noted}
+use Rattle.painting.proofs.Seeds.{ids_inside, ids_told, places_inside, noted_start, unmet_start}
 use Rattle.painting.proofs.paint.paint_down_to_common.Goals as goal
-use Rattle.painting.proofs.paint.paint_down_to_common.Goals.{After-seed_ids-live}
+use Rattle.painting.proofs.paint.paint_down_to_common.Goals.{After-seed-2, After-paint}
 
-pub seed-ours-requires : goal.seed-ours-requires
-seed-ours-requires g c = record {
-  whole = c.requires.whole;
-  size = c.clear.auto.marks ∙ c.requires.size;
-  kept = kept_blank (flags c.clear.new.marks) c.new-queue.result c.clear.ensures c.new-queue.ensures.whole c.new-queue.ensures.empty (omega (arith, length-flags c.clear.new.marks, c.clear.auto.marks, c.requires.size, c.requires.slots, c.new-queue.ensures.room));
-}
+pub seed-requires-clause-inside : goal.seed-requires-clause-inside
+seed-requires-clause-inside g c = ids_inside (g.H.Reader.commits c.args.history.now) (c.args.first ∷ [])
+
+pub seed-requires-2-clause-inside : goal.seed-requires-2-clause-inside
+seed-requires-2-clause-inside g c = ids_inside (g.H.Reader.commits c.seed.new.history) c.args.others.now
 
 -- the marks once all are told
-seeded : (g : _) (c : goal.After-seed_ids-live g)
-    → flags c.seed_ids-live.new.marks ≡ hand_all theirs (places_of (g.H.Reader.commits c.args.history.now) c.args.others.now) (hand_all ours (places_of (g.H.Reader.commits c.args.history.now) (c.args.first ∷ [])) (flags c.clear.new.marks))
+seeded : (g : _) (c : After-seed-2 g)
+    → flags c.seed-2.new.self.marks.now ≡ hand_all theirs (places_of (g.H.Reader.commits c.args.history.now) c.args.others.now) (hand_all ours (places_of (g.H.Reader.commits c.args.history.now) (c.args.first ∷ [])) (flags c.new-painter.result.marks.now))
 seeded g c =
-    c.seed_ids-live.ensures.marks
-    ∙ ap (λ (x : List Commit). hand_all theirs (places_of x c.args.others.now) (flags c.seed-ours.new.marks)) c.seed-ours.ensures.same.list
-    ∙ ap (hand_all theirs (places_of (g.H.Reader.commits c.args.history.now) c.args.others.now)) c.seed-ours.ensures.marks
+    let H = g.H.Reader.commits c.args.history.now in
+    ids_told H (g.H.Reader.commits c.seed.new.history) theirs c.args.others.now _ _ c.seed.ensures.goes.same.list c.seed-2.ensures.marks
+    ∙ ap (hand_all theirs (places_of H c.args.others.now)) (ids_told H H ours (c.args.first ∷ []) _ _ refl c.seed.ensures.marks)
 
-pub paint-requires : goal.paint-requires
-paint-requires g c =
+pub paint-requires-clause-none : goal.paint-requires-clause-none
+paint-requires-clause-none g c =
     let H = g.H.Reader.commits c.args.history.now in
     let L = (g.H.Reader.lawful c.args.history.now c.requires.whole).lawful in
-    let fs = places_of H (c.args.first ∷ []) in
-    let ps = places_of H c.args.others.now in
-    let ms = flags c.clear.new.marks in
-    let e = seeded g (goal.at.paint-requires g c).After-seed_ids-live in
-    let n = ap length (same_then c.seed-ours.ensures.same c.seed_ids-live.ensures.same).list in
-    record {
-      whole = c.seed_ids-live.ensures.same.still;
-      size = omega (arith, n, c.seed_ids-live.auto.marks, c.seed-ours.auto.marks, c.clear.auto.marks, c.requires.size);
-      room = omega (arith, n, c.requires.results);
-      kept = c.seed_ids-live.ensures.kept;
-      none = subst (λ (x : List Mark). Noted x []) (sym e) (noted_start H L fs ps (places_inside H _) (places_inside H _) ms c.clear.ensures);
-      unmet = subst Unmet (sym e) (unmet_start H L fs ps (places_inside H _) (places_inside H _) ms c.clear.ensures);
-    }
+    let n = noted_start H L (places_of H (c.args.first ∷ [])) (places_of H c.args.others.now) (places_inside H _) (places_inside H _) (flags c.new-painter.result.marks.now) c.new-painter.ensures.blank in
+    subst (Noted (flags c.seed-2.new.self.marks.now)) (sym c.clear.ensures.empty) (subst (λ (x : List Mark). Noted x []) (sym (seeded g (goal.at.paint-requires-clause-none g c).After-seed-2)) n)
 
-pub returns : goal.returns
-returns g c =
+pub paint-requires-clause-unmet : goal.paint-requires-clause-unmet
+paint-requires-clause-unmet g c =
     let H = g.H.Reader.commits c.args.history.now in
     let L = (g.H.Reader.lawful c.args.history.now c.requires.whole).lawful in
-    let s = same_then c.seed-ours.ensures.same c.seed_ids-live.ensures.same in
+    let u = unmet_start H L (places_of H (c.args.first ∷ [])) (places_of H c.args.others.now) (places_inside H _) (places_inside H _) (flags c.new-painter.result.marks.now) c.new-painter.ensures.blank in
+    subst Unmet (sym (seeded g (goal.at.paint-requires-clause-unmet g c).After-seed-2)) u
+
+-- the painter has a mark for each commit, as there were at first
+size : (g : _) (c : After-paint g) → length (flags c.paint.new.self.marks.now) ≡ length (g.H.Reader.commits c.args.history.now)
+size g c =
+    let w = goes_then c.seed.ensures.goes (goes_then c.seed-2.ensures.goes c.paint.ensures.goes) in
+    omega (arith, length-flags c.paint.new.self.marks.now, w.ready.size, ap length w.same.list)
+
+pub returns-clause-few : goal.returns-clause-few
+returns-clause-few g c = omega (arith, few_noted _ _ c.paint.ensures.noted, size g (goal.at.returns-clause-few g c).After-paint)
+
+-- what painting leaves
+painted : (g : _) (c : After-paint g) → flags c.seed-2.new.self.marks.now ≡ hand_all theirs (places_of (g.H.Reader.commits c.args.history.now) c.args.others.now) (hand_all ours (places_of (g.H.Reader.commits c.args.history.now) (c.args.first ∷ [])) (flags c.new-painter.result.marks.now))
+    → Painted (g.H.Reader.commits c.args.history.now) (shared (g.H.Reader.commits c.args.history.now) c.args.first c.args.others.now) (flags c.paint.new.self.marks.now) (listed c.paint.new.results)
+painted g c start =
+    let H = g.H.Reader.commits c.args.history.now in
+    let L = (g.H.Reader.lawful c.args.history.now c.requires.whole).lawful in
     let f = c.args.first in
     let zs = c.args.others.now in
-    record {
-      same = same_then s c.paint.ensures.same;
-      few = omega (arith, c.paint.ensures.few, ap length s.list);
-      painted = painted_from H (g.H.Reader.commits c.seed_ids-live.new.history) L _ (places_of H (f ∷ [])) (places_of H zs) (flags c.clear.new.marks) (flags c.seed_ids-live.new.marks) (flags c.paint.new.marks) _
-          s.list (omega (arith, length-flags c.clear.new.marks, c.clear.auto.marks, c.requires.size)) (omega (arith, length-flags c.paint.new.marks, c.paint.auto.marks, c.seed_ids-live.auto.marks, c.seed-ours.auto.marks, c.clear.auto.marks, c.requires.size))
-          (places_inside H (f ∷ [])) (places_inside H zs) (λ p _. shared_is H f zs p) c.clear.ensures (seeded g (goal.at.returns g c).After-seed_ids-live) c.paint.ensures.good c.paint.ensures.idle c.paint.ensures.noted c.paint.ensures.unmet;
-    }
+    painted_from H (g.H.Reader.commits c.seed-2.new.history) L (shared H f zs) (places_of H (f ∷ [])) (places_of H zs) (flags c.new-painter.result.marks.now) (flags c.seed-2.new.self.marks.now) (flags c.paint.new.self.marks.now) (listed c.paint.new.results)
+    (same_then c.seed.ensures.goes.same c.seed-2.ensures.goes.same).list (omega (arith, length-flags c.new-painter.result.marks.now, c.new-painter.ensures.size, c.requires.size)) (size g c)
+    (places_inside H (f ∷ [])) (places_inside H zs) (λ p _. shared_is H f zs p) c.new-painter.ensures.blank start c.paint.ensures.good c.paint.ensures.idle c.paint.ensures.noted c.paint.ensures.unmet
+
+pub returns-clause-inside : goal.returns-clause-inside
+returns-clause-inside g c p m = let w = goal.at.returns-clause-inside g c in ((painted g w.After-paint (seeded g w.After-seed-2)).only p m).0
+
+pub returns-clause-painted : goal.returns-clause-painted
+returns-clause-painted g c =
+    let w = goal.at.returns-clause-painted g c in
+    let k : c.paint.new.self.marks.ghost_name ≡ _ = c.paint.ensures.goes.held ∙ c.seed-2.ensures.goes.held ∙ c.seed.ensures.goes.held ∙ c.new-painter.ensures.held in
+    painted_at (g.H.Reader.commits c.args.history.now) (shared (g.H.Reader.commits c.args.history.now) c.args.first c.args.others.now) (listed c.paint.new.results) c.paint.new.self.marks.now _ (search rules) (painted g w.After-paint (seeded g w.After-seed-2))

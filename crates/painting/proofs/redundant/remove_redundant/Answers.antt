@@ -1,86 +1,73 @@
-use Rattle.std.proofs.Common.{◌≡◌, ℕ, ◌-◌, length, take, ap, ◌∙◌, arith}
-use Rattle.std.proofs.lemmas.List.{length-take-le}
-use Rattle.ancestry.specs.Sets.{keep}
-use Rattle.history.proofs.Sames.{same_self, same_then}
+use Rattle.std.proofs.Common.{◌≡◌, ℕ, ◌<◌, ◌≤◌, true, List, length, sym, ap, ◌∙◌, subst, arith, rules}
+use Rattle.ancestry.specs.Sets.{member, keep}
+use Rattle.history.proofs.Sames.{same_then}
 use Rattle.painting.specs.Bits.{flags}
+use Rattle.painting.specs.Descents.{walk_of}
+use Rattle.painting.specs.Listings.{listed}
 use Rattle.painting.specs.Marks.{mark, left}
-use Rattle.painting.proofs.Left.{keep_inside, keep_fresh, bests_one, bests_from}
+use Rattle.painting.specs.Walks.{level, Fresh, Tracked}
+use Rattle.painting.proofs.Codes.{length-flags}
+use Rattle.painting.proofs.Left.{keep_inside, keep_fresh, keep_fewer, keep_at, bests_one, bests_from}
+use Rattle.painting.proofs.Steps.{unmet_most}
 use Rattle.painting.proofs.redundant.remove_redundant.Goals as goal
-use Rattle.painting.proofs.redundant.remove_redundant.Goals.{After-retain-count}
+use Rattle.painting.proofs.redundant.remove_redundant.Goals.{After-retain_left}
 
--- what the first pass keeps, as it is lent on
-kept : (g : _) (c : goal.After-retain-count g) → take (c.retain-count.result - 0) c.retain-count.new.places ≡ keep (λ p. left (mark (flags c.args.marks.now) p)) (take c.args.found c.args.results.now)
-kept g c =
-    let d : c.retain-count.result - 0 ≡ c.retain-count.result = omega arith in
-    ap (λ (k : ℕ). take k c.retain-count.new.places) d ∙ c.retain-count.ensures.kept
+-- what the first pass keeps are places of the history
+inside : (g : _) (c : After-retain_left g) (p : ℕ) → member p (listed c.retain_left.new.places) ≡ true → p < length (g.H.Reader.commits c.args.history.now)
+inside g c = keep_inside _ (flags c.args.marks.now) (listed c.args.results.now) (listed c.retain_left.new.places) c.retain_left.ensures.kept c.requires.inside
 
-pub retain-count-requires : goal.retain-count-requires
-retain-count-requires g c = record { few = c.requires.few; inside = λ p m. omega (arith, c.requires.inside p m, c.requires.size) }
+pub returns-then-alone-clause-few : goal.returns-then-alone-clause-few
+returns-then-alone-clause-few g c = keep_fewer _ _ _ c.retain_left.ensures.kept
 
-pub returns-then-count-le1 : goal.returns-then-count-le1
-returns-then-count-le1 g c =
+pub returns-then-alone-clause-inside : goal.returns-then-alone-clause-inside
+returns-then-alone-clause-inside g c = inside g (goal.at.returns-then-alone-clause-inside g c).After-retain_left
+
+pub returns-then-alone-clause-bests : goal.returns-then-alone-clause-bests
+returns-then-alone-clause-bests g c S P =
     let L = (g.H.Reader.lawful c.args.history.now c.requires.whole).lawful in
-    let n = c.retain-count.result in
-    let a = c.retain-count.ensures in
-    let len = length-take-le n c.retain-count.new.places (omega (arith, a.few, c.requires.few, c.retain-count.auto.places)) in
-    record {
-      same = same_self _ c.requires.whole;
-      few = a.few;
-      bests = λ S P. bests_one _ L S _ _ _ a.kept (omega (arith, len, c.if-count-le1.true)) P;
-    }
+    bests_one (g.H.Reader.commits c.args.history.now) L S (flags c.args.marks.now) (listed c.args.results.now) (listed c.retain_left.new.places) c.retain_left.ensures.kept (omega (arith, ap length c.as_slice.ensures, c.if-alone.true)) P
 
-pub lowest-low-requires : goal.lowest-low-requires
-lowest-low-requires g c = record {
-  whole = c.requires.whole;
-  inside = keep_inside _ _ _ _ (kept g (goal.at.lowest-low-requires g c).After-retain-count) c.requires.inside;
-}
+pub lowest-requires-clause-inside : goal.lowest-requires-clause-inside
+lowest-requires-clause-inside g c p m = inside g (goal.at.lowest-requires-clause-inside g c).After-retain_left p (subst (λ (l : List ℕ). member p l ≡ true) c.as_slice-2.ensures m)
 
-pub start-depth-requires : goal.start-depth-requires
-start-depth-requires g c =
-    let s = c.lowest-low.ensures.same in
-    let n = ap length s.list in
-    let k = kept g (goal.at.start-depth-requires g c).After-retain-count in
+pub start-requires-clause-ready : goal.start-requires-clause-ready
+start-requires-clause-ready g c =
+    let n = ap length c.lowest.ensures.same.list in
     record {
-      whole = s.still;
+      still = c.lowest.ensures.same.still;
       size = omega (arith, n, c.requires.size);
-      inside = λ p m. omega (arith, n, keep_inside _ _ _ _ k c.requires.inside p m);
-      unmet = c.requires.unmet;
-      fresh = keep_fresh _ _ _ k;
-      room = omega (arith, n, c.requires.stack);
+      fits = omega (arith, n, ap length c.new-stack.ensures.empty, unmet_most (flags c.args.marks.now), length-flags c.args.marks.now, c.new-stack.ensures.room, c.requires.stack, c.requires.size);
     }
 
-pub walk-requires : goal.walk-requires
-walk-requires g c =
-    let s = c.start-depth.ensures.same in
-    let n = ap length s.list in
-    let m = ap length c.lowest-low.ensures.same.list in
-    record {
-      whole = s.still;
-      size = omega (arith, n, m, c.requires.size, c.start-depth.auto.marks);
-      room = c.start-depth.ensures.room;
-      inside = λ x h. omega (arith, n, c.start-depth.ensures.tracked.inside x h);
-    }
+pub start-requires-clause-inside : goal.start-requires-clause-inside
+start-requires-clause-inside g c p m = omega (arith, ap length c.lowest.ensures.same.list, inside g (goal.at.start-requires-clause-inside g c).After-retain_left p (subst (λ (l : List ℕ). member p l ≡ true) c.as_slice-3.ensures m))
 
-pub retain-requires : goal.retain-requires
-retain-requires g c =
-    let k = c.retain-count.ensures in
-    record {
-      few = omega (arith, k.few, c.requires.few, c.retain-count.auto.places);
-      inside = λ p m. omega (arith, keep_inside _ _ _ _ k.kept c.requires.inside p m, c.requires.size, c.start-depth.auto.marks, c.walk.auto.marks);
-    }
+pub start-requires-clause-fresh : goal.start-requires-clause-fresh
+start-requires-clause-fresh g c = subst (λ (l : List ℕ). Fresh l (flags c.args.marks.now)) (sym c.as_slice-3.ensures) (keep_fresh _ _ _ c.retain_left.ensures.kept)
 
-pub returns : goal.returns
-returns g c =
+pub retain_left-requires-2 : goal.retain_left-requires-2
+retain_left-requires-2 g c = record { inside = λ p m. omega (arith, inside g (goal.at.retain_left-requires-2 g c).After-retain_left p m, c.requires.size) }
+
+pub returns-clause-few : goal.returns-clause-few
+returns-clause-few g c = omega (arith, keep_fewer _ _ _ c.retain_left.ensures.kept, keep_fewer _ _ _ c.retain_left-2.ensures.kept)
+
+pub returns-clause-inside : goal.returns-clause-inside
+returns-clause-inside g c = keep_inside _ _ _ _ c.retain_left-2.ensures.kept (inside g (goal.at.returns-clause-inside g c).After-retain_left)
+
+pub returns-clause-bests : goal.returns-clause-bests
+returns-clause-bests g c S P =
     let H = g.H.Reader.commits c.args.history.now in
     let L = (g.H.Reader.lawful c.args.history.now c.requires.whole).lawful in
-    let s₁ = c.lowest-low.ensures.same in
-    let s₂ = same_then s₁ c.start-depth.ensures.same in
-    let d : c.retain-count.result ≡ c.retain-count.result - 0 = omega arith in
-    record {
-      same = same_then s₂ c.walk.ensures.same;
-      few = omega (arith, c.retain-count.ensures.few, c.retain.ensures.few);
-      bests = λ S P. bests_from H (g.H.Reader.commits c.lowest-low.new.history) (g.H.Reader.commits c.start-depth.new.history) L s₁.list s₂.list S (flags c.args.marks.now) (flags c.start-depth.new.marks) (flags c.walk.new.marks)
-          (take c.args.found c.args.results.now) (take (c.retain-count.result - 0) c.retain-count.new.places) _ c.lowest-low.result c.start-depth.result c.start-depth.new.stack c.walk.new.stack
-          (kept g (goal.at.returns g c).After-retain-count) (c.retain.ensures.kept ∙ ap (λ (k : ℕ). keep (λ p. left (mark (flags c.walk.new.marks) p)) (take k c.retain-count.new.places)) d)
-          c.lowest-low.ensures.least c.start-depth.ensures.tracked c.walk.ensures.tracked P;
-    }
+    let G = g.H.Reader.commits c.lowest.new.history in
+    let F = g.H.Reader.commits c.start.new.history in
+    let qs = listed c.retain_left.new.places in
+    let rs = listed c.retain_left-2.new.places in
+    let low = c.lowest.result in
+    let w₁ = walk_of c.start.new.self in
+    let w₂ = walk_of c.walk.new.self in
+    let h : c.walk.new.self.marks.ghost_name ≡ _ = c.walk.ensures.goes.held ∙ c.start.ensures.goes.held in
+    let r : rs ≡ keep (λ p. left (mark (flags c.walk.new.self.marks.now) p)) qs = keep_at qs rs _ c.walk.new.self.marks.now (search rules) c.retain_left-2.ensures.kept in
+    let least : (p : ℕ) → member p qs ≡ true → low ≤ level H p = subst (λ (l : List ℕ). (p : ℕ) → member p l ≡ true → low ≤ level H p) c.as_slice-2.ensures c.lowest.ensures.least in
+    let start : Tracked G low qs qs w₁ = subst (λ (l : List ℕ). Tracked G low l l w₁) c.as_slice-3.ensures c.start.ensures.tracked in
+    let walk : (rs bs : List ℕ) → Tracked F low rs bs w₁ → Tracked F low rs bs w₂ = subst (λ (k : ℕ). (rs bs : List ℕ) → Tracked F k rs bs w₁ → Tracked F k rs bs w₂) c.start.ensures.goes.low c.walk.ensures.tracked in
+    bests_from H G F L c.lowest.ensures.same.list (same_then c.lowest.ensures.same c.start.ensures.goes.same).list S (flags c.args.marks.now) w₁ w₂ (listed c.args.results.now) qs rs low c.retain_left.ensures.kept r least start walk c.walk.ensures.over P

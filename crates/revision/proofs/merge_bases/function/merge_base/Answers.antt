@@ -1,83 +1,69 @@
-use Rattle.std.proofs.Common.{◌≡◌, ℕ, true, ◌⊎◌, List, length, take, None, sym, ap, ◌∙◌, inl, inr, arith}
+use Rattle.std.proofs.Common.{◌≡◌, ℕ, true, ◌⊎◌, List, [], ◌∷◌, length, take, None, sym, ap, ◌∙◌, inl, inr, arith}
+use Rattle.ancestry.proofs.Library.{list_any-member}
 use Rattle.std.proofs.lemmas.List.{length-take-le}
 use Rattle.std.proofs.lemmas.Bool.{eqb-true, eqb-false}
 use Rattle.ancestry.specs.Sets.{member}
 use Rattle.ancestry.specs.Asking.{space_of, denied}
 use Rattle.ancestry.specs.Bases.{bases, best, ids, shared}
 use Rattle.ancestry.specs.Commits.{Commit}
-use Rattle.history.proofs.Sames.{same_then}
-use Rattle.revision.proofs.Members.{bases_plain, bases_walked, plain_slots, enough, answered}
+use Rattle.revision.proofs.Members.{bases_plain, bases_walked, plain_slots, Enough, enough, allowed, answered}
 use Rattle.revision.proofs.merge_bases.function.merge_base.Goals as goal
-use Rattle.revision.proofs.merge_bases.function.merge_base.Goals.{In_default, then-is_empty-via-then-is_empty, then-is_empty-via-else-is_empty+then-contains}
+use Rattle.revision.proofs.merge_bases.function.merge_base.Goals.{In_ok-suffice, Joined-then-is_empty, After-find_bases, then-is_empty-via-then-is_empty, then-is_empty-via-else-is_empty+then-contains}
 
 -- nothing refuses
-free : (g : _) (c : goal.In_default g) → denied (space_of (length c.args.space.marks.now) (length c.args.space.queue.now) (length c.args.space.stack.now) (length c.args.answers.now)) (length (g.H.Reader.commits c.args.history.now)) (length c.args.others.now) ≡ None
+free : (g : _) (c : In_ok-suffice g) → denied (space_of (length c.args.space.marks.now) (length c.args.space.queue.now) (length c.args.space.stack.now) (length c.args.answers.now)) (length (g.H.Reader.commits c.args.history.now)) (length c.args.others.now) ≡ None
 free g c =
     let sp = space_of (length c.args.space.marks.now) (length c.args.space.queue.now) (length c.args.space.stack.now) (length c.args.answers.now) in
-    ap (λ (n : ℕ). denied sp n (length c.args.others.now)) (sym c.count-count.ensures.answer) ∙ sym c.denied.ensures ∙ c.in_default.is
+    ap (λ (n : ℕ). denied sp n (length c.args.others.now)) (sym c.count-count.ensures.answer) ∙ allowed _ tt (sym c.in_ok-suffice.was ∙ c.suffice.ensures)
+
+-- so that what is lent suffices
+lent : (g : _) (c : In_ok-suffice g) → Enough (space_of (length c.args.space.marks.now) (length c.args.space.queue.now) (length c.args.space.stack.now) (length c.args.answers.now)) (length (g.H.Reader.commits c.args.history.now))
+lent g c = enough _ _ _ (free g c)
 
 pub bounds-answers-0 : goal.bounds-answers-0
-bounds-answers-0 g c = let h = enough _ _ _ (free g (goal.at.bounds-answers-0 g c).In_default) in omega (arith, h.answers)
+bounds-answers-0 g c = omega (arith, (lent g (goal.at.bounds-answers-0 g c).In_ok-suffice).answers)
 
-pub returns-then-is_empty : goal.returns-then-is_empty
-returns-then-is_empty g c =
-    let H = g.H.Reader.commits c.args.history.now in
-    let f = c.args.first in
+-- the answer is the first commit
+plain : (g : _) (c : Joined-then-is_empty g) → bases (g.H.Reader.commits c.args.history.now) c.args.first c.args.others.now ≡ c.args.first ∷ []
+plain g c =
     let zs = c.args.others.now in
-    let none = free g (goal.at.returns-then-is_empty g c).In_default in
-    let h = enough _ _ _ none in
-    let why : (length zs ≡ 0) ⊎ (member f zs ≡ true) = elim c.then-is_empty.branch [
+    let why : (length zs ≡ 0) ⊎ (member c.args.first zs ≡ true) = elim c.then-is_empty.branch [
       | then-is_empty-via-then-is_empty w ↦ inl (eqb-true (length zs) 0 (sym c.is_empty.ensures ∙ w.if-is_empty.true))
-      | then-is_empty-via-else-is_empty+then-contains w ↦ inr (sym w.contains.ensures ∙ w.if-contains.true)
+      | then-is_empty-via-else-is_empty+then-contains w ↦ inr (sym (w.contains.ensures.value ∙ list_any-member _ _) ∙ w.if-contains.true)
     ] in
-    let b = bases_plain H f zs why in
-    record {
-      same = c.count-count.ensures.same;
-      answer = answered _ _ 1 none (sym (ap length b));
-      slots = plain_slots (bases H f zs) c.args.first c.args.answers.now b (omega (arith, h.answers));
-      marks = tt;
-      queue = tt;
-      stack = tt;
-    }
+    bases_plain (g.H.Reader.commits c.args.history.now) c.args.first zs why
 
-pub split_at_mut-results-requires : goal.split_at_mut-results-requires
-split_at_mut-results-requires g c = let h = enough _ _ _ (free g (goal.at.split_at_mut-results-requires g c).In_default) in omega (arith, h.stack, c.count-count.ensures.answer)
+pub returns-then-is_empty-clause-answer : goal.returns-then-is_empty-clause-answer
+returns-then-is_empty-clause-answer g c = answered _ _ 1 (free g (goal.at.returns-then-is_empty-clause-answer g c).In_ok-suffice) (sym (ap length (plain g c)))
 
-pub slice_bounds-find_bases-end : goal.slice_bounds-find_bases-end
-slice_bounds-find_bases-end g c = let h = enough _ _ _ (free g (goal.at.slice_bounds-find_bases-end g c).In_default) in omega (arith, h.marks, c.count-count.ensures.answer)
+pub returns-then-is_empty-clause-slots : goal.returns-then-is_empty-clause-slots
+returns-then-is_empty-clause-slots g c = plain_slots _ c.args.first c.args.answers.now (plain g c) (omega (arith, (lent g (goal.at.returns-then-is_empty-clause-slots g c).In_ok-suffice).answers))
 
-pub find_bases-found-requires : goal.find_bases-found-requires
-find_bases-found-requires g c =
-    let h = enough _ _ _ (free g (goal.at.find_bases-found-requires g c).In_default) in
-    let s = c.count-count.ensures.same in
-    let n = ap length s.list in
+pub new-search-requires : goal.new-search-requires
+new-search-requires g c =
+    let h = lent g (goal.at.new-search-requires g c).In_ok-suffice in
     let e = c.count-count.ensures.answer in
-    let p = c.split_at_mut-results.ensures in
-    record {
-      whole = s.still;
-      marks = length-take-le _ c.args.space.marks.now (omega (arith, h.marks, e)) ∙ (omega (arith, n, e));
-      queue = omega (arith, n, h.queue);
-      results = omega (arith, n, e, p.front_len);
-      walk = omega (arith, n, e, p.back_len, h.stack);
-      answers = omega (arith, n, h.answers);
-    }
+    record { marks = omega (arith, h.marks, e); queue = omega (arith, h.queue, e); stack = omega (arith, h.stack, e) }
 
-pub returns : goal.returns
-returns g c =
+pub find_bases-requires-clause-answers : goal.find_bases-requires-clause-answers
+find_bases-requires-clause-answers g c = omega (arith, (lent g (goal.at.find_bases-requires-clause-answers g c).In_ok-suffice).answers, ap length c.count-count.ensures.same.list)
+
+-- what is written is what is asked for
+written : (g : _) (c : After-find_bases g) → (take c.find_bases.result c.find_bases.new.answers) ≡ bases (g.H.Reader.commits c.args.history.now) c.args.first c.args.others.now
+written g c =
     let H = g.H.Reader.commits c.args.history.now in
     let f = c.args.first in
     let zs = c.args.others.now in
-    let s = c.count-count.ensures.same in
-    let none = free g (goal.at.returns g c).In_default in
-    let h = enough _ _ _ none in
-    let r = c.find_bases-found in
-    let after = r.new.answers in
-    let w : (take r.result after) ≡ bases H f zs = r.ensures.written ∙ ap (λ (x : List Commit). ids x (best x (shared x f zs))) s.list ∙ sym (bases_walked H f zs (λ e. eqb-false (length zs) 0 (sym c.is_empty.ensures ∙ c.if-is_empty.false) e) (sym c.contains.ensures ∙ c.if-contains.false)) in
-    record {
-      same = same_then s r.ensures.same;
-      answer = answered _ _ r.result none (sym (length-take-le r.result after (omega (arith, r.ensures.few, ap length s.list, h.answers, r.auto.answers))) ∙ ap length w);
-      slots = (w, r.ensures.beyond);
-      marks = tt;
-      queue = tt;
-      stack = tt;
-    }
+    c.find_bases.ensures.written
+    ∙ ap (λ (x : List Commit). ids x (best x (shared x f zs))) c.count-count.ensures.same.list
+    ∙ sym (bases_walked H f zs (λ e. eqb-false (length zs) 0 (sym c.is_empty.ensures ∙ c.if-is_empty.false) e) (sym (c.contains.ensures.value ∙ list_any-member _ _) ∙ c.if-contains.false))
+
+pub returns-clause-answer : goal.returns-clause-answer
+returns-clause-answer g c =
+    let w = goal.at.returns-clause-answer g c in
+    let r = c.find_bases in
+    let n = length-take-le r.result r.new.answers (omega (arith, r.ensures.few, ap length c.count-count.ensures.same.list, (lent g w.In_ok-suffice).answers, r.auto.answers)) in
+    answered _ _ r.result (free g w.In_ok-suffice) (sym n ∙ ap length (written g w.After-find_bases))
+
+pub returns-clause-slots : goal.returns-clause-slots
+returns-clause-slots g c = (written g (goal.at.returns-clause-slots g c).After-find_bases, c.find_bases.ensures.beyond)

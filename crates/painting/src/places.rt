@@ -1,0 +1,81 @@
+// Lists of places in lent slices.
+ghost use Rattle.std.specs.Prelude.{◌≡◌, ℕ, ◌<◌, ◌≤◌, Bool, true, [], ◌∷◌, ◌++◌, length};
+ghost use Rattle.std.specs.Option.{MatchOption};
+ghost use Rattle.ancestry.specs.Sets.{member, keep};
+
+/// A list of places in a lent slice.
+///
+/// The first `len` slots hold the list; what the others hold does not matter.
+#[derive(Drop)]
+pub struct Places<'a> {
+    slots: &'a mut [usize],
+    len: usize,
+    ghost fits: { len ≤ length slots.now },
+}
+
+impl<'a> Places<'a> {
+    ghost use Rattle.painting.specs.Listings.{listed, room};
+
+    /// An empty list that has room for as many places as the slice has slots.
+    pub fn new(slots: &'a mut [usize]) -> Places<'a>
+        ensures empty { listed result ≡ [] }
+        ensures room { room result ≡ length slots.old }
+    {
+        Places { slots, len: 0 }
+    }
+
+    /// The list.
+    pub fn as_slice(&self) -> &[usize]
+        ensures { result.now ≡ listed self.now }
+    {
+        &self.slots[0..self.len]
+    }
+
+    /// Puts a place at the end of the list, which has room.
+    pub fn push(&mut self, place: usize)
+        requires { length (listed self.old) < room self.old }
+        ensures room { room self.new ≡ room self.old }
+        ensures listed { listed self.new ≡ listed self.old ++ place ∷ [] }
+    {
+        self.slots[self.len] = place;
+        self.len += 1;
+    }
+
+    /// Takes the place at the end of the list, if it has one.
+    pub(crate) fn pop(&mut self) -> Option<usize>
+        ensures room { room self.new ≡ room self.old }
+        ensures answer { MatchOption result ((listed self.old ≡ []) × (listed self.new ≡ [])) (λ p. listed self.old ≡ listed self.new ++ p ∷ []) }
+    {
+        if self.len == 0 {
+            return None;
+        }
+        self.len -= 1;
+        Some(self.slots[self.len])
+    }
+
+    /// Empties the list.
+    pub(crate) fn clear(&mut self)
+        ensures room { room self.new ≡ room self.old }
+        ensures empty { listed self.new ≡ [] }
+    {
+        self.len = 0;
+    }
+
+    /// Keeps the places that pass a test, in their order.
+    pub(crate) fn retain<F: Fn(usize) -> bool>(&mut self, test: F)
+        requires { (p : ℕ) → member p (listed self.old) ≡ true → F.pre test p }
+        ensures room { room self.new ≡ room self.old }
+        ensures kept { (t : ℕ → Bool) → ((p : ℕ) (b : Bool) → member p (listed self.old) ≡ true → F.post test p b → b ≡ t p) → listed self.new ≡ keep t (listed self.old) }
+    {
+        let len = self.len;
+        self.len = 0;
+        // By number, since the slots that are read are written meanwhile.
+        for i in 0..len {
+            let next = self.slots[i];
+            if test(next) {
+                self.slots[self.len] = next;
+                self.len += 1;
+            }
+        }
+    }
+}

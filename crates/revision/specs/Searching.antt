@@ -1,0 +1,12 @@
+-- The memory of a question.
+use Rattle.std.specs.Prelude.{◌≡◌, ℕ, ◌≤◌, length}
+use Rattle.painting.specs.Listings.{listed, room}
+use Rattle.revision.specs.declared.merge_bases.search.Search.{Search}
+
+-- it suffices for a history of n commits, and no more than those are found
+pub record Fits (n : ℕ) (s : Search) : Type 0 where
+  pub marks : length s.marks.now ≡ n
+  pub queue : n ≤ length s.queue.now
+  pub results : n ≤ room s.results
+  pub stack : n ≤ length s.stack.now
+  pub few : length (listed s.results) ≤ n
