@@ -74,7 +74,26 @@ impl PartialOrd for Id {
     }
 }
 
+// Conversions have the names that the standard library gives such ones: a `From` would not say whether bytes or letters are
+// meant.
 impl Id {
+    /// The id whose words of 32 bits these are, the most significant first.
+    pub fn from_words(words: [u32; 5]) -> Id
+        ensures { result ≡ spelled 4294967296 words }
+    {
+        let [first, second, third, fourth, fifth] = words;
+        Id {
+            words: [first, second, third, fourth, fifth],
+        }
+    }
+
+    /// The words of the id.
+    pub fn as_words(&self) -> &[u32; 5]
+        ensures { result.now ≡ digits 4294967296 5 self.now }
+    {
+        &self.words
+    }
+
     /// The id whose bytes these are.
     pub fn from_bytes(bytes: [u8; 20]) -> Id
         ensures { result ≡ spelled 256 bytes }

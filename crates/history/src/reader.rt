@@ -24,7 +24,8 @@ pub struct Entry {
 /// The look-ups leave that meaning as it was. They take the history as changeable all the same, since a layer may remember
 /// what it looked up.
 pub trait Reader {
-    /// The values of which the laws and the answers are owed.
+    /// The values of which the laws and the answers are owed. Each implementation says which they are: this, and nothing else,
+    /// is what a call is given.
     ghost whole: { Self → Type 0 };
 
     /// The commits by place.

@@ -8,6 +8,7 @@ use Rattle.ancestry.specs.Theorems.{Unreached}
 use Rattle.painting.specs.Marks.{mark, seen}
 use Rattle.painting.specs.Entries.{times}
 use Rattle.painting.specs.declared.marks.Mark.{Mark}
+use Rattle.painting.specs.Below.{AllBelow}
 
 -- the marks, and the places met whose parents are still to be met
 pub record Walk : Type 0 where
@@ -45,7 +46,7 @@ Fresh rs ms = (x : ℕ) → member x rs ≡ true → (mark ms x).stale ≡ false
 
 -- the walk so far, from the results rs, of which those in `begun` have had their parents met
 pub record Tracked (H : List Commit) (low : ℕ) (rs begun : List ℕ) (w : Walk) : Type 0 where
-  pub inside : (x : ℕ) → member x w.stack ≡ true → x < length H
+  pub inside : AllBelow (length H) w.stack
   pub on : (x : ℕ) → member x w.stack ≡ true → (mark w.marks x).met ≡ true
   pub closed : (x : ℕ) → (mark w.marks x).met ≡ true → (member x w.stack ≡ true) ⊎ Done H low w.marks x
   pub fresh : Fresh rs w.marks

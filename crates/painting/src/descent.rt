@@ -1,5 +1,5 @@
 // The walk down from the parents of results.
-ghost use Rattle.std.specs.Prelude.{◌≡◌, ℕ, ◌<◌, ◌≤◌, true, [], List, length};
+ghost use Rattle.std.specs.Prelude.{◌≡◌, ℕ, ◌<◌, true, [], List, length};
 ghost use Rattle.ancestry.specs.Sets.{member};
 ghost use Rattle.ancestry.specs.Commits.{parents_of};
 ghost use Rattle.painting.specs.Bits.{flags};
@@ -7,6 +7,7 @@ ghost use Rattle.painting.specs.Descents.{Ready, Goes, walk_of};
 ghost use Rattle.painting.specs.Listings.{listed};
 ghost use Rattle.painting.specs.Marks.{mark};
 ghost use Rattle.painting.specs.Painted.{Unmet};
+ghost use Rattle.painting.specs.Below.{AllBelow};
 ghost use Rattle.painting.specs.Walks.{meet, meet_all, Fresh, Tracked};
 
 use crate::entries::{keyed, parents_of};
@@ -27,7 +28,7 @@ impl<'a, 'p> Descent<'a, 'p> {
     pub(crate) fn start<H: Reader>(&mut self, history: &mut H, places: &[usize])
         requires ready { Ready H.Reader history.old self.old }
         requires empty { listed self.old.stack.now ≡ [] }
-        requires inside { (p : ℕ) → member p places.now ≡ true → p < length (H.commits history.old) }
+        requires inside { AllBelow (length (H.commits history.old)) places.now }
         requires unmet { Unmet (flags self.old.marks.now) }
         requires fresh { Fresh places.now (flags self.old.marks.now) }
         ensures goes { Goes H.Reader history.old history.new self.old self.new }
@@ -41,7 +42,7 @@ impl<'a, 'p> Descent<'a, 'p> {
     /// Walks on until no place is left whose parents are to be met.
     pub(crate) fn walk<H: Reader>(&mut self, history: &mut H)
         requires ready { Ready H.Reader history.old self.old }
-        requires inside { (x : ℕ) → member x (listed self.old.stack.now) ≡ true → x < length (H.commits history.old) }
+        requires inside { AllBelow (length (H.commits history.old)) (listed self.old.stack.now) }
         ensures goes { Goes H.Reader history.old history.new self.old self.new }
         ensures over { listed self.new.stack.now ≡ [] }
         ensures tracked { (rs bs : List ℕ) → Tracked (H.commits history.old) self.old.low rs bs (walk_of self.old) → Tracked (H.commits history.old) self.old.low rs bs (walk_of self.new) }

@@ -1,11 +1,12 @@
-// What is known of a place while the history is painted. Marks are lent as numbers, and read and written as flags here alone.
+// What is known of a place while the history is painted. A caller lends plain words of 64 bits for the marks, so they are
+// numbers in memory, and flags everywhere else: they are read and written here alone.
 ghost use Rattle.std.specs.Prelude.{◌≡◌, ◌<◌, length, if◌then◌else◌, slice_set};
 ghost use Rattle.painting.specs.Marks.{mark, covers, joined, told, settled, alive, newly, left, seen};
 ghost use Rattle.painting.specs.Bits.{bits, of_bits, flags};
 
-const COMMIT1: u64 = 1;
+const FIRST: u64 = 1;
 
-const COMMIT2: u64 = 2;
+const OTHERS: u64 = 2;
 
 const STALE: u64 = 4;
 
@@ -45,7 +46,7 @@ pub(crate) fn get(marks: &[u64], place: usize) -> Mark
     requires { place < length marks.now }
     ensures { result ≡ mark (flags marks.now) place }
 {
-    Mark::of_bits(marks[place])
+    Mark::from(marks[place])
 }
 
 /// Writes the mark of a place.
@@ -53,7 +54,7 @@ pub(crate) fn put(marks: &mut [u64], place: usize, mark: Mark)
     requires { place < length marks.old }
     ensures { flags marks.new ≡ slice_set (flags marks.old) place mark }
 {
-    marks[place] = mark.to_bits();
+    marks[place] = u64::from(mark);
 }
 
 fn bit(has: bool, flag: u64) -> u64
@@ -62,31 +63,35 @@ fn bit(has: bool, flag: u64) -> u64
     if has { flag } else { 0 }
 }
 
-impl Mark {
-    fn of_bits(bits: u64) -> Mark
-        ensures { result ≡ of_bits bits }
-    {
+impl From<u64> for Mark {
+    ghost from_gives = { λ n m. m ≡ of_bits n };
+
+    fn from(bits: u64) -> Mark {
         Mark {
-            first: bits & COMMIT1 != 0,
-            others: bits & COMMIT2 != 0,
+            first: bits & FIRST != 0,
+            others: bits & OTHERS != 0,
             stale: bits & STALE != 0,
             result: bits & RESULT != 0,
             waiting: bits & WAITING != 0,
             met: bits & MET != 0,
         }
     }
+}
 
-    fn to_bits(self) -> u64
-        ensures { result ≡ bits self }
-    {
-        bit(self.first, COMMIT1)
-            | bit(self.others, COMMIT2)
-            | bit(self.stale, STALE)
-            | bit(self.result, RESULT)
-            | bit(self.waiting, WAITING)
-            | bit(self.met, MET)
+impl From<Mark> for u64 {
+    ghost from_gives = { λ m n. n ≡ bits m };
+
+    fn from(mark: Mark) -> u64 {
+        bit(mark.first, FIRST)
+            | bit(mark.others, OTHERS)
+            | bit(mark.stale, STALE)
+            | bit(mark.result, RESULT)
+            | bit(mark.waiting, WAITING)
+            | bit(mark.met, MET)
     }
+}
 
+impl Mark {
     /// Whether the mark has all that is told.
     pub(crate) fn covers(self, told: Told) -> bool
         ensures { result ≡ covers self told }

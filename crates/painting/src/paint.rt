@@ -6,6 +6,7 @@ ghost use Rattle.history.specs.Unchanged.{Unchanged};
 ghost use Rattle.painting.specs.Bits.{flags};
 ghost use Rattle.painting.specs.Listings.{listed, room};
 ghost use Rattle.painting.specs.Painted.{Painted};
+ghost use Rattle.painting.specs.Below.{AllBelow};
 ghost use Rattle.painting.specs.Seeded.{meeting};
 
 use crate::marks::Told;
@@ -46,7 +47,7 @@ pub fn paint_down_to_common<H: Reader>(
     ensures same { Unchanged H.Reader history.old history.new }
     ensures room { room results.new ≡ room results.old }
     ensures few { length (listed results.new) ≤ length (H.commits history.old) }
-    ensures inside { (p : ℕ) → member p (listed results.new) ≡ true → p < length (H.commits history.old) }
+    ensures inside { AllBelow (length (H.commits history.old)) (listed results.new) }
     ensures painted { Painted (H.commits history.old) (shared (H.commits history.old) first others.now) (flags marks.new) (listed results.new) }
 {
     let mut queue = Queue::new(slots);
@@ -58,6 +59,9 @@ pub fn paint_down_to_common<H: Reader>(
 }
 
 /// The same for what an id and at least one of the places in `results` reach.
+///
+/// It reads its seeds from the list that it then fills, since a workspace has only two places for each commit; so they cannot
+/// be lent to it as a slice beside that list, as the others of `paint_down_to_common` are.
 pub fn paint_from_places<H: Reader>(
     history: &mut H,
     id: Id,
@@ -69,11 +73,11 @@ pub fn paint_from_places<H: Reader>(
     requires size { length marks.old ≡ length (H.commits history.old) }
     requires slots { length (H.commits history.old) ≤ length slots.old }
     requires results { length (H.commits history.old) ≤ room results.old }
-    requires inside { (s : ℕ) → member s (listed results.old) ≡ true → s < length (H.commits history.old) }
+    requires inside { AllBelow (length (H.commits history.old)) (listed results.old) }
     ensures same { Unchanged H.Reader history.old history.new }
     ensures room { room results.new ≡ room results.old }
     ensures few { length (listed results.new) ≤ length (H.commits history.old) }
-    ensures inside { (p : ℕ) → member p (listed results.new) ≡ true → p < length (H.commits history.old) }
+    ensures inside { AllBelow (length (H.commits history.old)) (listed results.new) }
     ensures painted { Painted (H.commits history.old) (meeting (H.commits history.old) id (listed results.old)) (flags marks.new) (listed results.new) }
 {
     let mut queue = Queue::new(slots);

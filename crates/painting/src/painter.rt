@@ -1,6 +1,5 @@
 // A painting under way: places told of flags, one after another.
-ghost use Rattle.std.specs.Prelude.{◌≡◌, ℕ, ◌+◌, ◌^◌, ◌<◌, ◌≤◌, Bool, true, [], ◌∷◌, length, slice_set};
-ghost use Rattle.std.specs.List.Sorted.{IsPermutation};
+ghost use Rattle.std.specs.Prelude.{◌≡◌, ℕ, ◌+◌, ◌^◌, ◌<◌, ◌≤◌, Bool, true, [], length, slice_set};
 ghost use Rattle.ancestry.specs.Commits.{parents_of};
 ghost use Rattle.ancestry.specs.Sets.{member};
 ghost use Rattle.queue.specs.Kinds.{beats};
@@ -10,6 +9,7 @@ ghost use Rattle.painting.specs.Bits.{flags};
 ghost use Rattle.painting.specs.Listings.{listed, room};
 ghost use Rattle.painting.specs.Painted.{Kept, Noted, Good, Down, Unmet};
 ghost use Rattle.painting.specs.Painters.{Ready, Goes};
+ghost use Rattle.painting.specs.Below.{AllBelow};
 ghost use Rattle.painting.specs.Seeded.{Blank, places_by};
 
 use crate::entries::{keyed, parents_of};
@@ -20,6 +20,7 @@ use history::Reader;
 use queue::{Keyed, Queue};
 
 /// The marks of all places, the queue of those that wait, and how many of these are not stale.
+// The history is passed beside it, since a struct that holds one can be dropped only where its type can.
 #[derive(Drop)]
 pub(crate) struct Painter<'a, 'q> {
     marks: &'a mut [u64],
@@ -49,7 +50,7 @@ impl<'a, 'q> Painter<'a, 'q> {
     /// Tells the places of the seeds; a seed that has none is passed over.
     pub(crate) fn seed<H: Reader, S: Seed>(&mut self, history: &mut H, seeds: &[S], told: Told)
         requires ready { Ready H.Reader history.old self.old }
-        requires inside { (p : ℕ) → member p (places_by (S.place_in (H.commits history.old)) seeds.now) ≡ true → p < length (H.commits history.old) }
+        requires inside { AllBelow (length (H.commits history.old)) (places_by (S.place_in (H.commits history.old)) seeds.now) }
         ensures goes { Goes H.Reader history.old history.new self.old self.new }
         ensures marks { flags self.new.marks.now ≡ hand_all told (places_by (S.place_in (H.commits history.old)) seeds.now) (flags self.old.marks.now) }
     {

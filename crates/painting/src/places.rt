@@ -5,7 +5,8 @@ ghost use Rattle.ancestry.specs.Sets.{member, keep};
 
 /// A list of places in a lent slice.
 ///
-/// The first `len` slots hold the list; what the others hold does not matter.
+/// The first `len` slots hold the list; what the others hold does not matter. The memory is lent, so how much of it is in use
+/// stands beside it.
 #[derive(Drop)]
 pub struct Places<'a> {
     slots: &'a mut [usize],

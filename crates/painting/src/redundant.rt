@@ -6,6 +6,7 @@ ghost use Rattle.painting.specs.Bits.{flags};
 ghost use Rattle.painting.specs.Listings.{listed, room};
 ghost use Rattle.painting.specs.Marks.{mark, left};
 ghost use Rattle.painting.specs.Painted.{Painted, Unmet};
+ghost use Rattle.painting.specs.Below.{AllBelow};
 ghost use Rattle.painting.specs.Walks.{level, Bests};
 
 use crate::descent::Descent;
@@ -27,12 +28,12 @@ pub fn remove_redundant<H: Reader>(
     requires whole { H.whole history.old }
     requires size { length marks.old ≡ length (H.commits history.old) }
     requires stack { length (H.commits history.old) ≤ length stack.old }
-    requires inside { (p : ℕ) → member p (listed results.old) ≡ true → p < length (H.commits history.old) }
+    requires inside { AllBelow (length (H.commits history.old)) (listed results.old) }
     requires unmet { Unmet (flags marks.old) }
     ensures same { Unchanged H.Reader history.old history.new }
     ensures room { room results.new ≡ room results.old }
     ensures few { length (listed results.new) ≤ length (listed results.old) }
-    ensures inside { (p : ℕ) → member p (listed results.new) ≡ true → p < length (H.commits history.old) }
+    ensures inside { AllBelow (length (H.commits history.old)) (listed results.new) }
     ensures bests { (S : ℕ → Bool) → Painted (H.commits history.old) S (flags marks.old) (listed results.old) → Bests (H.commits history.old) S (listed results.new) }
 {
     retain_left(marks, results);
@@ -53,7 +54,7 @@ pub fn remove_redundant<H: Reader>(
 
 // Keeps the places above which no result is known.
 fn retain_left(marks: &[u64], places: &mut Places<'_>)
-    requires inside { (p : ℕ) → member p (listed places.old) ≡ true → p < length marks.now }
+    requires inside { AllBelow (length marks.now) (listed places.old) }
     ensures room { room places.new ≡ room places.old }
     ensures kept { listed places.new ≡ keep (λ p. left (mark (flags marks.now) p)) (listed places.old) }
 {
@@ -63,7 +64,7 @@ fn retain_left(marks: &[u64], places: &mut Places<'_>)
 // The smallest generation among the places.
 fn lowest<H: Reader>(history: &mut H, places: &[usize]) -> u32
     requires whole { H.whole history.old }
-    requires inside { (p : ℕ) → member p places.now ≡ true → p < length (H.commits history.old) }
+    requires inside { AllBelow (length (H.commits history.old)) places.now }
     ensures same { Unchanged H.Reader history.old history.new }
     ensures least { (p : ℕ) → member p places.now ≡ true → result ≤ level (H.commits history.old) p }
 {

@@ -12,9 +12,9 @@ use crate::entry::Entry;
 use ancestry::Id;
 
 /// A commit by its key: the greater generation leaves first, then the greater date, then the lower id.
-#[derive(Clone, Copy)]
+#[derive(Clone, Copy, PartialEq, Eq, Default, Debug)]
 pub struct Keyed {
-    /// 4,294,967,295 stands for an absent one.
+    /// The number that keys compare: 4,294,967,295 stands for an absent one.
     pub generation: u32,
     pub date: i64,
     pub id: Id,
@@ -22,7 +22,7 @@ pub struct Keyed {
 }
 
 /// A commit by its date: the greater date leaves first, then the lower id.
-#[derive(Clone, Copy)]
+#[derive(Clone, Copy, PartialEq, Eq, Default, Debug)]
 pub struct Dated {
     pub date: i64,
     pub id: Id,

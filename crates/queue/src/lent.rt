@@ -7,7 +7,9 @@ use ancestry::Refusal;
 
 /// A priority queue in a lent slice. The best entry leaves first.
 ///
-/// The first `len` slots hold the entries that wait, in heap order; what the others hold does not matter.
+/// The first `len` slots hold the entries that wait, in heap order; what the others hold does not matter. The memory is lent,
+/// so how much of it is in use stands beside it. That the order is kept is a fact that each call is given and gives back: as a
+/// ghost field it would make every definition of a queue carry the ghost members of its entries.
 #[derive(Drop)]
 pub struct Queue<'a, E> {
     entries: &'a mut [E],

@@ -1,6 +1,6 @@
 -- One more commit at a time: the bases of those so far reach all that they share.
-use Rattle.std.proofs.Common.{◌≡◌, ℕ, ◌+◌, ◌<◌, ◌≤◌, Bool, true, false, ◌&&◌, ◌||◌, eqb, List, [], ◌∷◌, ◌++◌, length, get_or, take, Some, None, sym, refl, ap, ◌∙◌, subst, ⊎_elim, arith}
-use Rattle.std.proofs.lemmas.List.{take_all, take_more}
+use Rattle.std.proofs.Common.{◌≡◌, ℕ, ◌+◌, ◌<◌, Bool, true, false, ◌&&◌, ◌||◌, eqb, List, [], ◌∷◌, ◌++◌, length, get_or, take, Some, None, sym, refl, ap, ◌∙◌, subst, ⊎_elim, arith}
+use Rattle.std.proofs.lemmas.List.{take_more}
 use Rattle.std.proofs.lemmas.Bool.{and_parts, and_from, eqb-true}
 use Rattle.std.proofs.lemmas.Bool.Decides.{nat_tests}
 use Rattle.ancestry.specs.Sets.{any, every, member}
@@ -101,17 +101,8 @@ round_more H L f z zs ps qs s b =
       bests = λ _. t;
     }
 
-pub folded_start : (H : List Commit) (f : ℕ) (ps : List ℕ) → Spans H f [] ps → Folded H f [] ps
-folded_start H f ps s = record { spans = s; bests = λ l. absurd (omega arith) }
-
 pub folded_more : (H G : List Commit) → Lawful H → (f : ℕ) (is : List ℕ) (n : ℕ) (d : ℕ) (ps qs : List ℕ) → n < length is → G ≡ H → Folded H f (take n is) ps → Bests G (meeting G (get_or is n d) ps) qs → Folded H f (take (n + 1) is) qs
 folded_more H G L f is n d ps qs l e h b =
     let b' : Bests H (meeting H (get_or is n d) ps) qs = subst (λ (X : List Commit). Bests X (meeting X (get_or is n d) ps) qs) e b in
     let z : take (n + 1) is ≡ take n is ++ get_or is n d ∷ [] = take_more is n d l in
     subst (λ (zs : List ℕ). Folded H f zs qs) (sym z) (round_more H L f (get_or is n d) (take n is) ps qs h.spans b')
-
-pub folded_all : (H : List Commit) (f : ℕ) (is : List ℕ) (n : ℕ) (ps : List ℕ) → length is ≤ n → Folded H f (take n is) ps → Folded H f is ps
-folded_all H f is n ps l h = subst (λ (x : List ℕ). Folded H f x ps) (take_all n is l) h
-
-pub folded_bests : (H : List Commit) (f : ℕ) (is : List ℕ) (ps : List ℕ) → 0 < length is → Folded H f is ps → Bests H (shared_by_all H f is) ps
-folded_bests H f is ps l h = h.bests l

@@ -1,4 +1,3 @@
 pub mod Members
 pub mod Folds
-pub mod Moves
 pub mod Owning

@@ -1,5 +1,5 @@
 -- Ids in a list, and the answers without a walk.
-use Rattle.std.proofs.Common.{◌≡◌, ℕ, ◌+◌, ◌*◌, ◌<◌, ◌≤◌, Bool, true, false, cond, ◌||◌, eqb, ltb, ◌⊎◌, List, [], ◌∷◌, length, take, drop, set, Some, None, Ok, Err, Option, sym, refl, ◌∙◌, inl, inr, arith}
+use Rattle.std.proofs.Common.{◌≡◌, ℕ, ◌+◌, ◌*◌, ◌<◌, ◌≤◌, Bool, true, false, cond, ◌||◌, eqb, ltb, ◌⊎◌, List, [], ◌∷◌, length, take, drop, set, Some, None, Ok, Err, Option, Result, sym, refl, ◌∙◌, subst, inl, inr, arith}
 use Rattle.std.proofs.lemmas.Bool.{or_from, or_left, or_right, or_parts, true≢false, ltb-false, lt-ltb, le-ltb}
 use Rattle.std.proofs.lemmas.Bool.Decides.{nat_tests}
 use Rattle.ancestry.specs.Sets.{every, member}
@@ -102,10 +102,14 @@ pub suffices : {A : Type 0} (s : Space) (n o : ℕ) (a : A) → o ≤ 1000 → E
 unfolding denied short
 suffices s n o a l e = rw (le-ltb 1000 o l, le-ltb s.marks n e.marks, le-ltb s.queue (3 * n + 1001) e.queue, le-ltb s.stack (2 * n) e.stack, le-ltb s.answers (n + 1) e.answers) refl
 
--- what does not refuse
-pub allowed : {A : Type 0} (o : Option Refusal) (a : A) → Ok a ≡ unless o a → o ≡ None
+allowed : {A : Type 0} (o : Option Refusal) (a : A) → Ok a ≡ unless o a → o ≡ None
 allowed None a e = refl
 allowed (Some f) a e = absurd (let z : ◌≡◌ {A = ℕ} 0 1 = cc in omega arith)
+
+-- what the code learns where it goes on
+pub nothing_refuses : (s s' : Space) (n n' o : ℕ) {A : Type 0} (a : A) (r : Result A Refusal) → r ≡ Ok a → r ≡ unless (denied s' n' o) a → s' ≡ s → n' ≡ n → denied s n o ≡ None
+nothing_refuses s s' n n' o a r k e p q =
+    subst (λ (x : Space). denied x n o ≡ None) p (subst (λ (m : ℕ). denied s' m o ≡ None) q (allowed (denied s' n' o) a (sym k ∙ e)))
 
 -- what is answered where nothing refuses
 pub answered : {A : Type 0} (o : Option Refusal) (a b : A) → o ≡ None → b ≡ a → Ok b ≡ unless o a

@@ -1,14 +1,14 @@
 -- One more commit at a time: what is kept after some of the others.
-use Rattle.std.specs.Prelude.{◌≡◌, ℕ, ◌<◌, true, List, length}
-use Rattle.ancestry.specs.Sets.{member}
+use Rattle.std.specs.Prelude.{◌≡◌, ℕ, ◌<◌, List, length}
 use Rattle.ancestry.specs.Bases.{shared_by_all}
 use Rattle.ancestry.specs.Commits.{Commit}
 use Rattle.painting.specs.Seeded.{reached_by}
 use Rattle.painting.specs.Walks.{Bests}
+use Rattle.painting.specs.Below.{AllBelow}
 
 -- the places reach exactly what `first` and all of the ids reach
 pub record Spans (H : List Commit) (first : ℕ) (is ps : List ℕ) : Type 0 where
-  pub inside : (s : ℕ) → member s ps ≡ true → s < length H
+  pub inside : AllBelow (length H) ps
   pub spans : (p : ℕ) → p < length H → reached_by H ps p ≡ shared_by_all H first is p
 
 -- and once there is one id, they are the best of that

@@ -29,17 +29,10 @@ impl OwnedWorkspace {
     pub fn for_count(heap: Global, count: usize) -> Result<OwnedWorkspace, AllocError>
         ensures { IfOk result (λ w. sizes_of w ≡ needed count) }
     {
-        let none = Id::default();
-        let entry = Keyed {
-            generation: 0,
-            date: 0,
-            id: none,
-            place: 0,
-        };
         let marks = vec![in heap; 0u64; count]?;
-        let queue = vec![in heap; entry; 3 * count + 1_001]?;
+        let queue = vec![in heap; Keyed::default(); 3 * count + 1_001]?;
         let stack = vec![in heap; 0usize; 2 * count]?;
-        let answers = vec![in heap; none; count + 1]?;
+        let answers = vec![in heap; Id::default(); count + 1]?;
         Ok(OwnedWorkspace {
             marks,
             queue,
@@ -116,8 +109,9 @@ impl OwnedWorkspace {
     }
 }
 
-// The question asked with these slices as its workspace: over slices by themselves the check keeps their lengths, and in a struct
-// that is given away it does not.
+// The question asked with these slices as its workspace. In the method itself, which would give the slices of its vectors away in
+// a struct, the check loses what the vectors hold afterwards: that was tried, and no proof closed. So each question has such a
+// function, and the two differ in what they answer.
 fn ask_bases<H: Reader>(
     history: &mut H,
     first: Id,

@@ -1,8 +1,9 @@
-ghost use Rattle.std.specs.Prelude.{◌≡◌, ◌≤◌};
+ghost use Rattle.std.specs.Prelude.{◌≡◌, ◌≤◌, length};
 ghost use Rattle.ancestry.specs.Asking.{space_of, denied};
 ghost use Rattle.ancestry.specs.Intake.{unless};
+ghost use Rattle.revision.specs.Searching.{lent};
 
-use ancestry::Refusal;
+use ancestry::{Id, Refusal};
 use queue::Keyed;
 
 const MAX_OTHERS: usize = 1_000;
@@ -29,10 +30,22 @@ pub(crate) struct Sizes {
 }
 
 impl Sizes {
+    /// The sizes of what is lent.
+    pub(crate) fn of(marks: &[u64], queue: &[Keyed], stack: &[usize], answers: &[Id]) -> Sizes
+        ensures { lent result ≡ space_of (length marks.now) (length queue.now) (length stack.now) (length answers.now) }
+    {
+        Sizes {
+            marks: marks.len(),
+            queue: queue.len(),
+            stack: stack.len(),
+            answers: answers.len(),
+        }
+    }
+
     /// Refuses a question about merge bases with too many others, or in a history of too many commits for what is lent.
     pub(crate) fn suffice(self, count: usize, others: usize) -> Result<(), Refusal>
         requires { count ≤ 1000000 }
-        ensures { result ≡ unless (denied (space_of self.marks self.queue self.stack self.answers) count others) tt }
+        ensures { result ≡ unless (denied (lent self) count others) tt }
     {
         if others > MAX_OTHERS {
             return Err(Refusal::TooManyOthers);

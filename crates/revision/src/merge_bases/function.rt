@@ -41,12 +41,7 @@ pub fn merge_base<H: Reader>(
         stack,
     } = space;
     let count = history.count();
-    let sizes = Sizes {
-        marks: marks.len(),
-        queue: queue.len(),
-        stack: stack.len(),
-        answers: answers.len(),
-    };
+    let sizes = Sizes::of(marks, queue, stack, answers);
     sizes.suffice(count, others.len())?;
     if others.is_empty() || others.contains(&first) {
         answers[0] = first;

@@ -40,12 +40,7 @@ pub fn octopus<H: Reader>(
         stack,
     } = space;
     let count = history.count();
-    let sizes = Sizes {
-        marks: marks.len(),
-        queue: queue.len(),
-        stack: stack.len(),
-        answers: answers.len(),
-    };
+    let sizes = Sizes::of(marks, queue, stack, answers);
     sizes.suffice(count, others.len())?;
     if all_same(others, first) {
         answers[0] = first;

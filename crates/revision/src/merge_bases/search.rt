@@ -6,7 +6,8 @@ ghost use Rattle.history.specs.Unchanged.{Unchanged};
 ghost use Rattle.painting.specs.Listings.{listed};
 ghost use Rattle.painting.specs.Seeded.{meeting};
 ghost use Rattle.painting.specs.Walks.{Bests};
-ghost use Rattle.revision.specs.Folding.{Spans, Folded};
+ghost use Rattle.revision.specs.Folding.{Spans};
+ghost use Rattle.painting.specs.Below.{AllBelow};
 ghost use Rattle.revision.specs.Searching.{Fits};
 
 use ancestry::Id;
@@ -115,7 +116,7 @@ impl<'a> Search<'a> {
     fn round<H: Reader>(&mut self, history: &mut H, id: Id)
         requires whole { H.whole history.old }
         requires fits { Fits (length (H.commits history.old)) self.old }
-        requires inside { (s : ℕ) → member s (listed self.old.results) ≡ true → s < length (H.commits history.old) }
+        requires inside { AllBelow (length (H.commits history.old)) (listed self.old.results) }
         ensures same { Unchanged H.Reader history.old history.new }
         ensures fits { Fits (length (H.commits history.old)) self.new }
         ensures bests { Bests (H.commits history.old) (meeting (H.commits history.old) id (listed self.old.results)) (listed self.new.results) }

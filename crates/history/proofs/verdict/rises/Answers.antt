@@ -10,9 +10,6 @@ use Rattle.history.proofs.verdict.rises.Goals as goal
 pub loop-place-init : goal.loop-place-init
 loop-place-init g c = (same_self _ c.requires, any-nil _)
 
-pub exceeded-requires : goal.exceeded-requires
-exceeded-requires g c = c.loop-place.invariant.0.still
-
 -- what the call says of the place, over the list as it was at first
 pub returns-then-exceeded : goal.returns-then-exceeded
 returns-then-exceeded g c =
@@ -32,11 +29,3 @@ loop-place-preserved g c =
       same_then c.loop-place.invariant.0 c.exceeded.ensures.same,
       any_more (exceeds H c.args.generation) c.args.parents.now c.loop-place.place-index c.loop-place-test.true c.loop-place.invariant.1 e,
     )
-
-pub returns : goal.returns
-returns g c =
-    let H = g.H.Reader.commits c.args.history.now in
-    record {
-      same = c.loop-place.invariant.0;
-      answer = sym (ap (any (exceeds H c.args.generation)) (sym (take_all c.loop-place.place-index c.args.parents.now c.loop-place-test.false)) ∙ c.loop-place.invariant.1);
-    }

@@ -1,11 +1,8 @@
 use Rattle.std.proofs.Common.{refl, ap, ◌∙◌, w64, SFits, rules}
 use Rattle.std.proofs.lemmas.Int.{to_z-of_z}
 use Rattle.ancestry.specs.Keys.{rank}
-use Rattle.painting.proofs.Shows.{entered, shown}
+use Rattle.painting.proofs.Shows.{entered}
 use Rattle.painting.proofs.entries.keyed.Goals as goal
-
-pub unwrap-entry-requires : goal.unwrap-entry-requires
-unwrap-entry-requires g c = shown _ _ _ c.read.ensures.answer c.requires.below
 
 pub returns : goal.returns
 returns g c =

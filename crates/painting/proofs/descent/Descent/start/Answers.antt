@@ -1,5 +1,5 @@
 use Rattle.std.proofs.Common.{ℕ, ◌+◌, List, length, get_or, take, sym, ap, ◌∙◌, subst, arith}
-use Rattle.std.proofs.lemmas.List.{take_all, take_more}
+use Rattle.std.proofs.lemmas.List.{take_more}
 use Rattle.ancestry.specs.Commits.{Commit, parents_of}
 use Rattle.painting.specs.Bits.{flags}
 use Rattle.painting.specs.Descents.{walk_of}
@@ -37,9 +37,3 @@ loop-place-preserved g c =
       goes_then k c.meet_parents.ensures.goes,
       tracked_at H low ps (take (i + 1) ps) _ _ e (subst (λ (b : List ℕ). Tracked H low ps b (meet_all H low (parents_of H p) w)) (sym (take_more ps i 0 c.loop-place-test.true)) t),
     )
-
-pub returns-clause-tracked : goal.returns-clause-tracked
-returns-clause-tracked g c =
-    let H = g.H.Reader.commits c.args.history.now in
-    let ps = c.args.places.now in
-    subst (λ (b : List ℕ). Tracked H c.args.self.now.low ps b (walk_of c.loop-place.self)) (take_all c.loop-place.place-index ps c.loop-place-test.false) c.loop-place.invariant.1

@@ -1,4 +1,4 @@
-use Rattle.std.proofs.Common.{◌≡◌, ◌<◌, true, List, ◌∷◌, length, sym, refl, ap, ◌∙◌, subst, arith, length-set}
+use Rattle.std.proofs.Common.{◌≡◌, ◌<◌, true, List, ◌∷◌, length, sym, ap, ◌∙◌, subst, arith, length-set}
 use Rattle.std.specs.List.Sorted.{IsPermutation}
 use Rattle.history.proofs.Sames.{same_self}
 use Rattle.queue.specs.Queues.{waiting}
@@ -12,14 +12,11 @@ use Rattle.painting.specs.Painters.{Ready, Goes}
 use Rattle.painting.specs.declared.marks.Mark.{Mark}
 use Rattle.painting.proofs.Codes.{length-flags}
 use Rattle.painting.proofs.Counts.{took_best, take_some, taken-waits, waiting_inside, kept_taken, turn_written, cost-turn}
-use Rattle.painting.proofs.Going.{goes_self, goes_then}
+use Rattle.painting.proofs.Going.{goes_then}
 use Rattle.painting.proofs.Notes.{noted_new, noted_old, unmet-turn, room_noted}
 use Rattle.painting.proofs.Turns.{good_turn}
 use Rattle.painting.proofs.painter.Painter.paint.Goals as goal
 use Rattle.painting.proofs.painter.Painter.paint.Goals.{then-is_newly_result, else-is_newly_result, After-unwrap-place, After-set, After-tell_parents}
-
-pub loop-self-init : goal.loop-self-init
-loop-self-init g c = (goes_self c.requires.ready, λ A B da db go. go, c.requires.none, c.requires.unmet, refl)
 
 pub unwrap-place-requires : goal.unwrap-place-requires
 unwrap-place-requires g c = take_some (flags c.loop-self.self.marks.now) c.loop-self.self.queue.now c.take.new.self c.loop-self.self.live c.take.result c.loop-self.invariant.0.ready.kept c.loop-self-test.true c.take.ensures.answer

@@ -1,4 +1,4 @@
-use Rattle.std.proofs.Common.{◌≡◌, ℕ, true, ◌⊎◌, List, [], ◌∷◌, length, take, None, sym, ap, ◌∙◌, inl, inr, arith}
+use Rattle.std.proofs.Common.{◌≡◌, true, ◌⊎◌, List, [], ◌∷◌, length, take, None, sym, ap, ◌∙◌, inl, inr, arith}
 use Rattle.ancestry.proofs.Library.{list_any-member}
 use Rattle.std.proofs.lemmas.List.{length-take-le}
 use Rattle.std.proofs.lemmas.Bool.{eqb-true, eqb-false}
@@ -6,15 +6,13 @@ use Rattle.ancestry.specs.Sets.{member}
 use Rattle.ancestry.specs.Asking.{space_of, denied}
 use Rattle.ancestry.specs.Bases.{bases, best, ids, shared}
 use Rattle.ancestry.specs.Commits.{Commit}
-use Rattle.revision.proofs.Members.{bases_plain, bases_walked, plain_slots, Enough, enough, allowed, answered}
+use Rattle.revision.proofs.Members.{bases_plain, bases_walked, plain_slots, Enough, enough, nothing_refuses, answered}
 use Rattle.revision.proofs.merge_bases.function.merge_base.Goals as goal
 use Rattle.revision.proofs.merge_bases.function.merge_base.Goals.{In_ok-suffice, Joined-then-is_empty, After-find_bases, then-is_empty-via-then-is_empty, then-is_empty-via-else-is_empty+then-contains}
 
 -- nothing refuses
 free : (g : _) (c : In_ok-suffice g) → denied (space_of (length c.args.space.marks.now) (length c.args.space.queue.now) (length c.args.space.stack.now) (length c.args.answers.now)) (length (g.H.Reader.commits c.args.history.now)) (length c.args.others.now) ≡ None
-free g c =
-    let sp = space_of (length c.args.space.marks.now) (length c.args.space.queue.now) (length c.args.space.stack.now) (length c.args.answers.now) in
-    ap (λ (n : ℕ). denied sp n (length c.args.others.now)) (sym c.count-count.ensures.answer) ∙ allowed _ tt (sym c.in_ok-suffice.was ∙ c.suffice.ensures)
+free g c = nothing_refuses _ _ _ _ _ tt _ c.in_ok-suffice.was c.suffice.ensures c.of-sizes.ensures c.count-count.ensures.answer
 
 -- so that what is lent suffices
 lent : (g : _) (c : In_ok-suffice g) → Enough (space_of (length c.args.space.marks.now) (length c.args.space.queue.now) (length c.args.space.stack.now) (length c.args.answers.now)) (length (g.H.Reader.commits c.args.history.now))

@@ -1,17 +1,15 @@
-use Rattle.std.proofs.Common.{eqb, ◌≡◌, ℕ, List, length, None, sym, ap, ◌∙◌, arith}
+use Rattle.std.proofs.Common.{eqb, ◌≡◌, List, length, None, sym, ap, ◌∙◌, arith}
 use Rattle.ancestry.proofs.Library.{list_all-every}
 use Rattle.ancestry.specs.Asking.{space_of, denied}
 use Rattle.ancestry.specs.Bases.{octopus, best, ids, head, shared_by_all}
 use Rattle.ancestry.specs.Commits.{Commit}
-use Rattle.revision.proofs.Members.{every_some, octopus_plain, octopus_walked, Enough, enough, allowed, answered}
+use Rattle.revision.proofs.Members.{every_some, octopus_plain, octopus_walked, Enough, enough, nothing_refuses, answered}
 use Rattle.revision.proofs.merge_bases.octopus.octopus.Goals as goal
 use Rattle.revision.proofs.merge_bases.octopus.octopus.Goals.{In_ok-suffice, After-find_common}
 
 -- nothing refuses
 free : (g : _) (c : In_ok-suffice g) → denied (space_of (length c.args.space.marks.now) (length c.args.space.queue.now) (length c.args.space.stack.now) (length c.args.answers.now)) (length (g.H.Reader.commits c.args.history.now)) (length c.args.others.now) ≡ None
-free g c =
-    let sp = space_of (length c.args.space.marks.now) (length c.args.space.queue.now) (length c.args.space.stack.now) (length c.args.answers.now) in
-    ap (λ (n : ℕ). denied sp n (length c.args.others.now)) (sym c.count-count.ensures.answer) ∙ allowed _ tt (sym c.in_ok-suffice.was ∙ c.suffice.ensures)
+free g c = nothing_refuses _ _ _ _ _ tt _ c.in_ok-suffice.was c.suffice.ensures c.of-sizes.ensures c.count-count.ensures.answer
 
 -- so that what is lent suffices
 lent : (g : _) (c : In_ok-suffice g) → Enough (space_of (length c.args.space.marks.now) (length c.args.space.queue.now) (length c.args.space.stack.now) (length c.args.answers.now)) (length (g.H.Reader.commits c.args.history.now))

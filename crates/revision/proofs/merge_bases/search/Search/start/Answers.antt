@@ -13,13 +13,12 @@ pub returns-in-Some-clause-fits : goal.returns-in-Some-clause-fits
 returns-in-Some-clause-fits g c =
     let l = (place_says _ _ c.in-Some.place (sym c.find.ensures.answer ∙ c.in-Some.is)).0 in
     let f = c.requires.fits in
-    let n = length_push (listed c.args.self.now.results) c.in-Some.place in
     record {
       marks = f.marks;
       queue = f.queue;
       results = omega (arith, f.results, c.push.ensures.room);
       stack = f.stack;
-      few = omega (arith, l, n, ap length c.push.ensures.listed, ap length c.requires.none);
+      few = omega (arith, l, ap length c.push.ensures.listed ∙ length_push _ _, ap length c.requires.none);
     }
 
 pub returns-in-Some-clause-spans : goal.returns-in-Some-clause-spans
