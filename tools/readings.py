@@ -45,10 +45,8 @@ SOURCE = """// The types that the definitions name, and the two halves of the ta
 ghost use Rattle.ancestry.specs.Cases.{AllRight, first_half};
 ghost use Rattle.ancestry.specs.Chosen.{ChosenRight};
 
-mod id;
 mod refusal;
 
-pub use id::Id;
 pub use refusal::Refusal;
 
 pub fn first_half()
@@ -96,15 +94,17 @@ def try_reading(number, what, module, changes):
         crate = os.path.join(folder, "crates", "ancestry")
         shutil.copytree(SPECS, os.path.join(crate, "specs"))
         write(os.path.join(folder, "crates.txt"), "ancestry:\n")
-        for name in ("id", "refusal"):
-            # the types alone: the definitions name them
-            text = read(os.path.join(ROOT, "crates", "ancestry", "src", name + ".rt"))
-            kind = re.search(r"(?s)#\[derive\([^\n]*\n(pub (?:struct|enum) .*?\n}\n)", text).group(1)
-            write(os.path.join(crate, "src", name + ".rt"), "#[derive(Clone, Copy)]\n" + kind)
+        # the type alone: the definitions name it
+        text = read(os.path.join(ROOT, "crates", "ancestry", "src", "refusal.rt"))
+        kind = re.search(r"(?s)#\[derive\([^\n]*\n(pub enum .*?\n}\n)", text).group(1)
+        write(os.path.join(crate, "src", "refusal.rt"), "#[derive(Clone, Copy)]\n" + kind)
         write(os.path.join(crate, "src", "lib.rt"), SOURCE)
         lib = read(os.path.join(crate, "specs", "Lib.antt"))
-        write(os.path.join(crate, "specs", "Lib.antt"), lib.replace("pub mod Theorems\n", "") + "pub mod Chosen\n")
-        os.remove(os.path.join(crate, "specs", "Theorems.antt"))
+        for name in ("Theorems", "Digits", "Ids"):
+            # the table needs neither the laws nor how an id is held
+            lib = lib.replace("pub mod %s\n" % name, "")
+            os.remove(os.path.join(crate, "specs", name + ".antt"))
+        write(os.path.join(crate, "specs", "Lib.antt"), lib + "pub mod Chosen\n")
         write(os.path.join(crate, "specs", "Chosen.antt"), CHOSEN % number)
         path = os.path.join(crate, "specs", module + ".antt")
         text = read(path)

@@ -15,6 +15,7 @@ impl Id {
         if text.len() != 40 {
             return None;
         }
+        // Five words of eight letters, written out: there are no more.
         let first = word(text, 0)?;
         let second = word(text, 8)?;
         let third = word(text, 16)?;
@@ -30,6 +31,7 @@ impl Id {
         ensures { result ≡ hex self }
     {
         let bytes = self.to_bytes();
+        // Two letters for each byte, at twice its number.
         let mut text = [0; 40];
         for (i, byte) in bytes.iter().enumerate() {
             text[2 * i] = LETTERS[(byte / 16) as usize];

@@ -81,6 +81,7 @@ impl Id {
     pub fn from_words(words: [u32; 5]) -> Id
         ensures { result ≡ spelled 4294967296 words }
     {
+        // Word by word, so that each is known to have 32 bits.
         let [first, second, third, fourth, fifth] = words;
         Id {
             words: [first, second, third, fourth, fifth],
@@ -113,6 +114,7 @@ impl Id {
     pub fn to_bytes(self) -> [u8; 20]
         ensures { result ≡ digits 256 20 self }
     {
+        // Written out: a loop over words and bytes at once would count both by hand.
         let [a, b, c, d, e] = self.words;
         let a = a.to_be_bytes();
         let b = b.to_be_bytes();
@@ -124,6 +126,8 @@ impl Id {
             d[2], d[3], e[0], e[1], e[2], e[3],
         ]
     }
+
+    // `==`, `<` and `cmp` say the same: the three are public, and promise it by name.
 
     /// Whether the two ids are one.
     pub fn same(self, other: Id) -> bool

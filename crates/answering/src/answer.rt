@@ -27,9 +27,8 @@ impl fmt::Display for Answer {
 
     fn fmt<W: fmt::Write>(&self, f: &mut fmt::Formatter<W>) -> fmt::Result {
         match self {
-            Answer::Intake(Ok(place)) => write!(f, "place {place}"),
+            Answer::Intake(Ok(place)) | Answer::Place(Some(place)) => write!(f, "place {place}"),
             Answer::Intake(Err(refusal)) => write!(f, "{refusal}"),
-            Answer::Place(Some(place)) => write!(f, "place {place}"),
             Answer::Number(number) => write!(f, "{number}"),
             Answer::Commit(Some(entry)) => write!(f, "{entry}"),
             Answer::Place(None) | Answer::Commit(None) => f.write_str("none"),

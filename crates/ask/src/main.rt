@@ -85,6 +85,7 @@ fn start(rt: &HostRuntime) -> io::Result<ExitCode> {
     let args: Vec<String> = env::args(rt)?.skip(1).collect(rt.alloc())?;
     match answer(rt, args.as_slice()) {
         Ok(status) => Ok(status),
+        Err(Failure::Io(error)) => Err(error),
         Err(failure) => {
             eprintln!(rt; "ask: {failure}")?;
             Ok(ExitCode::FAILURE)

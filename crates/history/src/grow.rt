@@ -5,7 +5,7 @@ ghost use Rattle.history.specs.Meaning.{offered, Grown};
 use crate::reader::Reader;
 use ancestry::{Id, Refusal};
 
-/// A commit that is offered to a history.
+/// A commit that is offered to a history: anything may be, and what lies outside what the comments say is refused.
 #[derive(Clone, Copy)]
 pub struct NewCommit<'a> {
     pub id: Id,

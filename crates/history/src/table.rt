@@ -25,7 +25,7 @@ pub struct Table<const N: usize> {
 }
 
 impl Row {
-    // The row of a commit.
+    // The row of a commit. It is no `From`, which could not ask for at most 16 parents.
     pub(crate) fn of(commit: &NewCommit<'_>) -> Row
         requires { length commit.now.parents.now ≤ 16 }
         ensures { commit_of result ≡ offered commit.now }
@@ -68,6 +68,7 @@ impl<const N: usize> Table<N> {
         self.rows.iter().position(|row| row.id == id)
     }
 
+    // What is told of a commit is less than what is stored, so a row is no `Entry`, and converts into none.
     pub(crate) fn read(&self, place: usize) -> Option<Entry>
         ensures { Reads (listed self.now) place result }
     {

@@ -74,7 +74,8 @@ fn no_such<H: Reader>(history: &mut H, parents: &[usize]) -> bool
     parents.iter().any(|place| count <= *place)
 }
 
-// Whether the generation of a parent that is a place exceeds this one.
+// Whether the generation of a parent that is a place exceeds this one. It is no `any`: of a closure that changes the history the
+// check would know nothing afterwards.
 fn rises<H: Reader>(history: &mut H, generation: u32, parents: &[usize]) -> bool
     requires { H.whole history.old }
     ensures same { Unchanged H.Reader history.old history.new }

@@ -96,7 +96,8 @@ fn blanks_at_start(text: &[u8]) -> usize
     text.iter().take_while(|&&byte| is_blank(byte)).count()
 }
 
-// How many blanks stand at the end.
+// How many blanks stand at the end. Over an iterator as a parameter, one text for both would speak of what it yields, and not of
+// the text.
 fn blanks_at_end(text: &[u8]) -> usize
     ensures value { result ≡ suffix_len blank text.now }
     ensures within { result ≤ length text.now }

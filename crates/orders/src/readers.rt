@@ -7,6 +7,9 @@ use crate::expected::{Expected, Malformed};
 use crate::from_text::FromText;
 use lines::nth_field;
 
+// The fields of a line, the number of one and what is expected there go as three arguments: a value of the first two would change
+// every clause and read no plainer, and one of the last two is `Malformed`, which says that something was wrong.
+
 /// The text of a field.
 pub(crate) fn text_at<'a>(
     fields: &[&'a [u8]],

@@ -15,7 +15,8 @@ walk_of d = record { marks = flags d.marks.now; stack = listed d.stack.now }
 abbrev pub ahead : Descent → ℕ
 ahead d = length (listed d.stack.now) + total unmet (flags d.marks.now)
 
--- the history is whole, each of its places has a mark, and the stack has room for all that lies ahead
+-- the history is whole, each of its places has a mark, and the stack has room for all that lies ahead; a clause and no invariant of the
+-- descent, since it relates it to a history
 pub record Ready {S : Type 0} (g : Ghosts S) (h : S) (d : Descent) : Type 0 where
   pub still : g.whole h
   pub size : length d.marks.now ≡ length (g.commits h)

@@ -6,7 +6,8 @@ use Rattle.painting.specs.Bits.{flags}
 use Rattle.painting.specs.Painted.{Kept}
 use Rattle.painting.specs.declared.painter.Painter.{Painter}
 
--- the history is whole, each of its places has a mark, and the queue and the count are kept
+-- the history is whole, each of its places has a mark, and the queue and the count are kept; a clause and no invariant of the painter,
+-- since it relates it to a history
 pub record Ready {S : Type 0} (g : Ghosts S) (h : S) (p : Painter) : Type 0 where
   pub still : g.whole h
   pub size : length p.marks.now ≡ length (g.commits h)

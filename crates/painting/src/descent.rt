@@ -15,6 +15,8 @@ use crate::marks::{Mark, get, put};
 use crate::places::Places;
 use history::Reader;
 
+// The history goes beside a descent, and what is ready is a clause, as for a painter.
+
 /// The marks of all places, the places met whose parents are still to be met, and the lowest generation that is walked.
 #[derive(Drop)]
 pub(crate) struct Descent<'a, 'p> {
@@ -66,7 +68,7 @@ impl<'a, 'p> Descent<'a, 'p> {
         }
     }
 
-    // The mark of a place.
+    // The mark of a place. Read through a method, the marks are known to stay as they are.
     fn mark(&self, place: usize) -> Mark
         requires { place < length self.now.marks.now }
         ensures { result ≡ mark (flags self.now.marks.now) place }

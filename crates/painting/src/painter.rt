@@ -19,8 +19,10 @@ use crate::seed::Seed;
 use history::Reader;
 use queue::{Keyed, Queue};
 
+// The history goes beside a painter: one that held it was tried, and where it ends no proof closed of what the history then holds.
+// What is ready before a call and after it is a clause: as a ghost field it would be false between an insertion and its mark.
+
 /// The marks of all places, the queue of those that wait, and how many of these are not stale.
-// The history is passed beside it, since a struct that holds one can be dropped only where its type can.
 #[derive(Drop)]
 pub(crate) struct Painter<'a, 'q> {
     marks: &'a mut [u64],
@@ -55,9 +57,10 @@ impl<'a, 'q> Painter<'a, 'q> {
         ensures marks { flags self.new.marks.now ≡ hand_all told (places_by (S.place_in (H.commits history.old)) seeds.now) (flags self.old.marks.now) }
     {
         for seed in seeds {
-            if let Some(place) = seed.place(history) {
-                self.tell(history, place, told);
-            }
+            let Some(place) = seed.place(history) else {
+                continue;
+            };
+            self.tell(history, place, told);
         }
     }
 
@@ -92,7 +95,8 @@ impl<'a, 'q> Painter<'a, 'q> {
         ensures goes { Goes H.Reader history.old history.new self.old self.new }
         ensures marks { flags self.new.marks.now ≡ hand_all told (parents_of (H.commits history.old) place) (flags self.old.marks.now) }
     {
-        // A history gives its parents by their numbers.
+        // A history gives its parents by their numbers, and a closure told of each, which changes the history, leaves no proof; so
+        // a descent has such a loop of its own.
         for n in 0..parents_of(history, place) {
             let parent = history.parent(place, n).unwrap();
             self.tell(history, parent, told);
@@ -116,7 +120,7 @@ impl<'a, 'q> Painter<'a, 'q> {
         self.set(place, mark.joined(told));
     }
 
-    // The mark of a place.
+    // The mark of a place. Read through a method, the marks are known to stay as they are.
     fn mark(&self, place: usize) -> Mark
         requires { place < length self.now.marks.now }
         ensures { result ≡ mark (flags self.now.marks.now) place }

@@ -1,5 +1,5 @@
 // Lists of places in lent slices.
-ghost use Rattle.std.specs.Prelude.{◌≡◌, ℕ, ◌<◌, ◌≤◌, Bool, true, [], ◌∷◌, ◌++◌, length};
+ghost use Rattle.std.specs.Prelude.{◌≡◌, ℕ, ◌<◌, ◌≤◌, Bool, true, [], ◌∷◌, ◌++◌, length, take};
 ghost use Rattle.std.specs.Option.{MatchOption};
 ghost use Rattle.ancestry.specs.Sets.{member, keep};
 
@@ -23,6 +23,15 @@ impl<'a> Places<'a> {
         ensures room { room result ≡ length slots.old }
     {
         Places { slots, len: 0 }
+    }
+
+    /// The list that the first `len` slots hold.
+    pub fn of_first(slots: &'a mut [usize], len: usize) -> Places<'a>
+        requires { len ≤ length slots.old }
+        ensures listed { listed result ≡ take len slots.old }
+        ensures room { room result ≡ length slots.old }
+    {
+        Places { slots, len }
     }
 
     /// The list.

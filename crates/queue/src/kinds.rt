@@ -14,7 +14,7 @@ use ancestry::Id;
 /// A commit by its key: the greater generation leaves first, then the greater date, then the lower id.
 #[derive(Clone, Copy, PartialEq, Eq, Default, Debug)]
 pub struct Keyed {
-    /// The number that keys compare: 4,294,967,295 stands for an absent one.
+    /// The number that keys compare: by the rules 4,294,967,295 stands for an absent one.
     pub generation: u32,
     pub date: i64,
     pub id: Id,

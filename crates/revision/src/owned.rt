@@ -53,7 +53,8 @@ impl OwnedWorkspace {
         OwnedWorkspace::for_count(heap, history.capacity())
     }
 
-    /// All merge bases of `first` against `others`. Their ids stand in the first of the answer slots.
+    /// All merge bases of `first` against `others`. Their ids stand in the first of the answer slots, which this workspace keeps for
+    /// its caller, so how many there are is answered.
     pub fn merge_base<H: Reader>(
         &mut self,
         history: &mut H,

@@ -9,6 +9,9 @@ use crate::workspace::{Sizes, Workspace};
 use ancestry::{Id, Refusal};
 use history::Reader;
 
+// The history, `first` and the others go one by one, and the number of the answers beside the slots that are lent for them, as
+// callers know this question.
+
 /// All merge bases of `first` against `others`, best key first: the best of the commits that `first` and at least one other
 /// reach. Their ids stand in the first of the `answers`, and their number is returned.
 ///
@@ -35,6 +38,7 @@ pub fn merge_base<H: Reader>(
     ensures queue { Stays result space.entry.queue.now space.exit.1.0.now }
     ensures stack { Stays result space.entry.stack.now space.exit.1.1.0.now }
 {
+    // The slices go on one by one: of a workspace given on whole, the check would lose what its slices hold on refusal.
     let Workspace {
         marks,
         queue,

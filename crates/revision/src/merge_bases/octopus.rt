@@ -34,6 +34,7 @@ pub fn octopus<H: Reader>(
     ensures queue { Stays result space.entry.queue.now space.exit.1.0.now }
     ensures stack { Stays result space.entry.stack.now space.exit.1.1.0.now }
 {
+    // The slices go on one by one: of a workspace given on whole, the check would lose what its slices hold on refusal.
     let Workspace {
         marks,
         queue,

@@ -107,9 +107,10 @@ impl<'a> Search<'a> {
         ensures fits { Fits (length (H.commits history.old)) self.new }
         ensures spans { Spans (H.commits history.old) first [] (listed self.new.results) }
     {
-        if let Some(place) = history.find(first) {
-            self.results.push(place);
-        }
+        let Some(place) = history.find(first) else {
+            return;
+        };
+        self.results.push(place);
     }
 
     // One more commit: the best that it and one of the places found reach.

@@ -1,7 +1,5 @@
 use Rattle.std.proofs.Common.{List, get_or, sym, ap, ◌∙◌}
-use Rattle.std.proofs.lemmas.List.{take_all}
 use Rattle.ancestry.specs.Commits.{Commit}
-use Rattle.ancestry.specs.Sets.{any}
 use Rattle.ancestry.specs.Intake.{exceeds}
 use Rattle.history.proofs.Sames.{same_self, same_then}
 use Rattle.history.proofs.Verdicts.{any_more, any_here, any-nil}

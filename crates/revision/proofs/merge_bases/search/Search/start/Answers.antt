@@ -9,8 +9,8 @@ use Rattle.revision.proofs.merge_bases.search.Search.start.Goals as goal
 pub push-requires : goal.push-requires
 push-requires g c = omega (arith, ap length c.requires.none, c.requires.fits.results, (place_says _ _ c.in-Some.place (sym c.find.ensures.answer ∙ c.in-Some.is)).0)
 
-pub returns-in-Some-clause-fits : goal.returns-in-Some-clause-fits
-returns-in-Some-clause-fits g c =
+pub returns-clause-fits : goal.returns-clause-fits
+returns-clause-fits g c =
     let l = (place_says _ _ c.in-Some.place (sym c.find.ensures.answer ∙ c.in-Some.is)).0 in
     let f = c.requires.fits in
     record {
@@ -21,8 +21,8 @@ returns-in-Some-clause-fits g c =
       few = omega (arith, l, ap length c.push.ensures.listed ∙ length_push _ _, ap length c.requires.none);
     }
 
-pub returns-in-Some-clause-spans : goal.returns-in-Some-clause-spans
-returns-in-Some-clause-spans g c =
+pub returns-clause-spans : goal.returns-clause-spans
+returns-clause-spans g c =
     start_held (g.H.Reader.commits c.args.history.now) (g.H.Reader.lawful c.args.history.now c.requires.whole).lawful c.args.first c.in-Some.place (listed c.args.self.now.results) (listed c.push.new.self)
     (sym c.find.ensures.answer ∙ c.in-Some.is) c.requires.none c.push.ensures.listed
 
