@@ -1,3 +1,4 @@
 pub mod Steps
 pub mod Kept
 pub mod Example
+pub mod Progress

@@ -1,3 +1,4 @@
 pub mod Runs
 pub mod Promised
 pub mod Example
+pub mod Calls

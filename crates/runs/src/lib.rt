@@ -1,4 +1,10 @@
-// Runs: what holds of a history after any list of calls.
+// Runs: calls on a history one after another, and what holds after any list of them.
 #![tactic(auto)]
 
+mod call;
+mod running;
+mod stepping;
 pub mod theorems;
+
+pub use call::{Call, Event};
+pub use running::{run, Stopped};
