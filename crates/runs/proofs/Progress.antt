@@ -1,5 +1,5 @@
 -- A run as far as it has gone.
-use Rattle.std.proofs.Common.{◌≡◌, ℕ, ◌+◌, false, Ok, Err, Result, List, [], ◌∷◌, ◌++◌, length, map, take, sym, refl, ap, ◌∙◌, subst}
+use Rattle.std.proofs.Common.{◌≡◌, ℕ, ◌+◌, false, Ok, Err, Result, List, [], ◌∷◌, ◌++◌, map, take, sym, refl, ap, ◌∙◌, subst}
 use Rattle.std.specs.Prelude.{OnOk}
 use Rattle.std.specs.Result.{is_err}
 use Rattle.std.proofs.lemmas.List.{map-append}
@@ -25,14 +25,14 @@ module _ {S : Type 0} (g : Ghosts S) (h : S) (s : Space) (calls : List Call) whe
   running_none w = record { whole = w; room = refl; calls_made = refl; ran = none_law (g.room h) (g.commits h) }
 
   pub running_more : (i : ℕ) (es : List Event) (h1 h2 : S) (s' : Space) (e : Event) → Running g h s calls i es h1 → s' ≡ s → take (i + 1) calls ≡ take i calls ++ call_of e ∷ []
-    → g.whole h2 → g.room h2 ≡ g.room h1 → g.commits h2 ≡ g.commits h1 ++ gained (event_of s' e) → Right (g.room h1) (g.commits h1) (event_of s' e)
-    → Running g h s calls (i + 1) (es ++ e ∷ []) h2
+      → g.whole h2 → g.room h2 ≡ g.room h1 → g.commits h2 ≡ g.commits h1 ++ gained (event_of s' e) → Right (g.room h1) (g.commits h1) (event_of s' e)
+      → Running g h s calls (i + 1) (es ++ e ∷ []) h2
   running_more i es h1 h2 s' e R k t w m l x = record {
     whole = w;
     room = m ∙ R.room;
     calls_made = map-append call_of es (e ∷ []) ∙ ap (λ (cs : List Call). cs ++ call_of e ∷ []) R.calls_made ∙ sym t;
     ran = subst (λ (fs : List run.Event). Ran (record { room = g.room h; start = g.commits h; events = fs; end = g.commits h2 })) (sym (map-append (event_of s) es (e ∷ [])))
-      (subst (λ (H : List Commit). Ran (record { room = g.room h; start = g.commits h; events = map (event_of s) es ++ event_of s e ∷ []; end = H })) (sym (l ∙ ap (λ (z : Space). g.commits h1 ++ gained (event_of z e)) k))
+        (subst (λ (H : List Commit). Ran (record { room = g.room h; start = g.commits h; events = map (event_of s) es ++ event_of s e ∷ []; end = H })) (sym (l ∙ ap (λ (z : Space). g.commits h1 ++ gained (event_of z e)) k))
         (more_law (story g h s es h1) (event_of s e) R.ran (subst (λ (z : Space). Right (g.room h) (g.commits h1) (event_of z e)) k (subst (λ (n : ℕ). Right n (g.commits h1) (event_of s' e)) R.room x))));
   }
 

@@ -1,5 +1,5 @@
 -- The calls and events of the code, as a run has them.
-use Rattle.std.specs.Prelude.{◌≡◌, ℕ, List, [], ◌∷◌, map, Some, None, Ok, Err, Option, Result, Vec, vec_items}
+use Rattle.std.specs.Prelude.{ℕ, List, map, Some, None, Ok, Err, Option, Result, Vec, vec_items}
 use Rattle.std.specs.declared.alloc.Global.{Global}
 use Rattle.ancestry.specs.Asking.{Space}
 use Rattle.ancestry.specs.declared.refusal.Refusal.{Refusal}

@@ -4,7 +4,9 @@
 mod call;
 mod running;
 mod stepping;
+#[cfg(test)]
+mod tests;
 pub mod theorems;
 
 pub use call::{Call, Event};
-pub use running::{run, Stopped};
+pub use running::{Stopped, run};

@@ -29,12 +29,14 @@ pub(crate) fn step<'a, H: History>(
     ensures call { IfOk result (λ e. call_of e ≡ call.now) }
 {
     Ok(match *call {
-        Call::Intake(NewCommit {
-            id,
-            generation,
-            date,
-            parents,
-        }) => {
+        Call::Intake(
+            NewCommit {
+                id,
+                generation,
+                date,
+                parents,
+            },
+        ) => {
             let commit = NewCommit {
                 id,
                 generation,
