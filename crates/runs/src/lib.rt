@@ -3,6 +3,7 @@
 
 mod call;
 mod running;
+mod several;
 mod stepping;
 #[cfg(test)]
 mod tests;
