@@ -1,5 +1,5 @@
 -- Several histories, each as far as it has gone.
-use Rattle.std.proofs.Common.{◌≡◌, ◌≢◌, ℕ, ◌<◌, ◌≤◌, Bool, true, false, cond, eqb, ◌⊎◌, ⊎_elim, List, [], ◌∷◌, ◌++◌, length, map, take, Some, get_or, set, sym, refl, ap, ◌∙◌, subst, arith}
+use Rattle.std.proofs.Common.{◌≡◌, ℕ, ◌<◌, Bool, true, false, cond, eqb, ⊎_elim, List, [], ◌∷◌, ◌++◌, length, map, take, Some, get_or, set, sym, refl, ap, ◌∙◌, subst, arith}
 use Rattle.std.specs.List.{slice_get}
 use Rattle.std.proofs.lemmas.Bool.{cases_eq, eq-eqb, eqb-true}
 use Rattle.std.proofs.lemmas.List.{append-nil, length-map, length-take-le, length-set, get_or-set_same, get_or-set_other}
@@ -50,13 +50,15 @@ module _ {S : Type 0} (g : Ghosts S) (s : Space) (before : List S) where
 
   -- one history changes, and what is noted is noted of it
   pub each_set : (ns ms : List Noted) (hs : List S) (to : ℕ) (d x : S) → to < length hs → EachWent g s before ns hs
-    → ((h : S) → Went g h s (events_at to ns) (get_or hs to d) → Went g h s (events_at to ms) x)
-    → ((k : ℕ) → (to ≡ k → ⊥) → events_at k ms ≡ events_at k ns)
-    → EachWent g s before ms (set hs to x)
-  each_set ns ms hs to d x l E own other = record { each = λ k h h' a b. ⊎_elim
-      (λ (e : to ≡ k). subst (λ (j : ℕ). slice_get before j ≡ Some h → slice_get (set hs to x) j ≡ Some h' → Went g h s (events_at j ms) h') e (mine h h') a b)
-      (λ n. subst (λ (es : List Event). Went g h s es h') (sym (other k n)) (E.each k h h' a (theirs k h' n b)))
-      (cases_eq to k) }
+      → ((h : S) → Went g h s (events_at to ns) (get_or hs to d) → Went g h s (events_at to ms) x)
+      → ((k : ℕ) → (to ≡ k → ⊥) → events_at k ms ≡ events_at k ns)
+      → EachWent g s before ms (set hs to x)
+  each_set ns ms hs to d x l E own other = record {
+    each = λ k h h' a b. ⊎_elim
+        (λ (e : to ≡ k). subst (λ (j : ℕ). slice_get before j ≡ Some h → slice_get (set hs to x) j ≡ Some h' → Went g h s (events_at j ms) h') e (mine h h') a b)
+        (λ n. subst (λ (es : List Event). Went g h s es h') (sym (other k n)) (E.each k h h' a (theirs k h' n b)))
+        (cases_eq to k);
+  }
     where
       mine : (h h' : S) → slice_get before to ≡ Some h → slice_get (set hs to x) to ≡ Some h' → Went g h s (events_at to ms) h'
       mine h h' a b = subst (λ (y : S). Went g h s (events_at to ms) y) (sym (get_or-set_same hs to x d l) ∙ get_or_from_slice_get (set hs to x) to h' d b) (own h (E.each to h (get_or hs to d) a (slice_get-get_or hs to d l)))
@@ -67,15 +69,15 @@ module _ {S : Type 0} (g : Ghosts S) (s : Space) (before : List S) where
           slice_get-get_or hs k d w ∙ ap Some (sym (get_or-set_other hs to k x d (λ e. n (sym e))) ∙ get_or_from_slice_get (set hs to x) k h' d b)
 
   pub each_more : (ns : List Noted) (n : Noted) (hs : List S) (d x : S) → n.to < length hs → EachWent g s before ns hs
-    → ((h : S) (es : List Event) → Went g h s es (get_or hs n.to d) → Went g h s (es ++ n.event ∷ []) x)
-    → EachWent g s before (ns ++ n ∷ []) (set hs n.to x)
+      → ((h : S) (es : List Event) → Went g h s es (get_or hs n.to d) → Went g h s (es ++ n.event ∷ []) x)
+      → EachWent g s before (ns ++ n ∷ []) (set hs n.to x)
   each_more ns n hs d x l E f = each_set ns (ns ++ n ∷ []) hs n.to d x l E
       (λ h w. subst (λ (es : List Event). Went g h s es x) (sym (events_more n.to ns n ∙ ap (λ (es : List Event). events_at n.to ns ++ es) (events_own n))) (f h (events_at n.to ns) w))
       (λ k e. events_more k ns n ∙ ap (λ (es : List Event). events_at k ns ++ es) (events_other k n e) ∙ append-nil (events_at k ns))
 
   pub each_same : (ns : List Noted) (hs : List S) (to : ℕ) (d x : S) → to < length hs → EachWent g s before ns hs
-    → ((h : S) (es : List Event) → Went g h s es (get_or hs to d) → Went g h s es x)
-    → EachWent g s before ns (set hs to x)
+      → ((h : S) (es : List Event) → Went g h s es (get_or hs to d) → Went g h s es x)
+      → EachWent g s before ns (set hs to x)
   each_same ns hs to d x l E f = each_set ns ns hs to d x l E (λ h w. f h (events_at to ns) w) (λ k e. refl)
 
   pub each_kept : (ns : List Noted) (hs : List S) → AllWhole g before → EachWent g s before ns hs → EachRan g s before ns hs

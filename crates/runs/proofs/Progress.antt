@@ -24,13 +24,13 @@ module _ {S : Type 0} (g : Ghosts S) (h : S) (s : Space) where
   went_none w = record { whole = w; room = refl; ran = none_law (g.room h) (g.commits h) }
 
   pub went_more : (es : List Event) (h1 h2 : S) (s' : Space) (e : Event) → Went g h s es h1 → s' ≡ s
-    → g.whole h2 → g.room h2 ≡ g.room h1 → g.commits h2 ≡ g.commits h1 ++ gained (event_of s' e) → Right (g.room h1) (g.commits h1) (event_of s' e)
-    → Went g h s (es ++ e ∷ []) h2
+      → g.whole h2 → g.room h2 ≡ g.room h1 → g.commits h2 ≡ g.commits h1 ++ gained (event_of s' e) → Right (g.room h1) (g.commits h1) (event_of s' e)
+      → Went g h s (es ++ e ∷ []) h2
   went_more es h1 h2 s' e R k w m l x = record {
     whole = w;
     room = m ∙ R.room;
     ran = subst (λ (fs : List run.Event). Ran (record { room = g.room h; start = g.commits h; events = fs; end = g.commits h2 })) (sym (map-append (event_of s) es (e ∷ [])))
-      (subst (λ (H : List Commit). Ran (record { room = g.room h; start = g.commits h; events = map (event_of s) es ++ event_of s e ∷ []; end = H })) (sym (l ∙ ap (λ (z : Space). g.commits h1 ++ gained (event_of z e)) k))
+        (subst (λ (H : List Commit). Ran (record { room = g.room h; start = g.commits h; events = map (event_of s) es ++ event_of s e ∷ []; end = H })) (sym (l ∙ ap (λ (z : Space). g.commits h1 ++ gained (event_of z e)) k))
         (more_law (story g h s es h1) (event_of s e) R.ran (subst (λ (z : Space). Right (g.room h) (g.commits h1) (event_of z e)) k (subst (λ (n : ℕ). Right n (g.commits h1) (event_of s' e)) R.room x))));
   }
 

@@ -1,5 +1,5 @@
 -- Runs on several histories: each call is addressed to one of them, by its number.
-use Rattle.std.specs.Prelude.{◌≡◌, ℕ, ◌≤◌, List, [], ◌∷◌, length, cond, ◌==◌, Some, None, Ok, Err, Option, Result, Vec, vec_items}
+use Rattle.std.specs.Prelude.{◌≡◌, ℕ, ◌≤◌, List, [], ◌∷◌, length, cond, ◌==◌, Some, Ok, Err, Result, Vec, vec_items}
 use Rattle.std.specs.List.{slice_get}
 use Rattle.std.specs.declared.alloc.Global.{Global}
 use Rattle.ancestry.specs.Asking.{Space}
@@ -11,7 +11,7 @@ use Rattle.runs.specs.declared.call.Event.{Event}
 use Rattle.runs.specs.declared.several.Addressed.{Addressed}
 use Rattle.runs.specs.declared.several.Noted.{Noted}
 use Rattle.runs.specs.declared.several.Halted.{Halted}
-use Rattle.runs.specs.declared.several.Why.TheVariants.{Memory, NoSuchHistory}
+use Rattle.runs.specs.declared.several.Why.TheVariants.{NoSuchHistory}
 
 -- every one of the histories is whole
 abbrev pub AllWhole : {S : Type 0} → Ghosts S → List S → Type 0

@@ -11,3 +11,4 @@ pub mod theorems;
 
 pub use call::{Call, Event};
 pub use running::{Stopped, run};
+pub use several::{Addressed, Halted, Noted, Why, run_all};

@@ -1,4 +1,4 @@
-use crate::{Call, Event, run};
+use crate::{Addressed, Call, Event, Why, run, run_all};
 use ancestry::{Id, Refusal};
 use history::{NewCommit, Rows};
 use revision::OwnedWorkspace;
@@ -56,6 +56,44 @@ fn two_stations_take_over_each_others_corrections(rt: HostRuntime) -> Result<(),
                 assert_eq!(rt; bases.as_slice(), [id(25), id(24)].as_slice());
             }
             Event::Octopus(_, _, Ok(base)) => assert_eq!(rt; *base, Some(id(24))),
+            _ => assert!(rt; false, "an answer of another kind"),
+        }
+    }
+    Ok(())
+}
+
+// Calls on two histories come in turn; the last is addressed to none, and ends the run.
+#[test]
+fn calls_on_one_history_leave_the_other(rt: HostRuntime) -> Result<(), Fail> {
+    let mut histories = [Rows::open(), Rows::open()];
+    let mut space = OwnedWorkspace::for_count(rt.alloc(), 512)?;
+    let calls = [
+        Addressed {
+            to: 0,
+            call: commit(18, 100, &[]),
+        },
+        Addressed {
+            to: 1,
+            call: Call::Count,
+        },
+        Addressed {
+            to: 1,
+            call: commit(18, 200, &[]),
+        },
+        Addressed {
+            to: 2,
+            call: Call::Count,
+        },
+    ];
+    let halted = run_all(rt.alloc(), &mut histories, &calls, &mut space)
+        .err()
+        .ok_or("a call to no history was made")?;
+    assert_eq!(rt; halted.why, Why::NoSuchHistory);
+    assert_eq!(rt; halted.events.len(), 3);
+    for noted in halted.events.iter() {
+        match &noted.event {
+            Event::Intake(_, answer) => assert_eq!(rt; *answer, Ok(0)),
+            Event::Count(n) => assert_eq!(rt; *n, 0),
             _ => assert!(rt; false, "an answer of another kind"),
         }
     }

@@ -1,7 +1,6 @@
 use Rattle.std.proofs.Common.{◌≡◌, ◌+◌, List, [], ◌∷◌, ◌++◌, length, map, take, set, Some, sym, refl, ap, ◌∙◌, subst, arith, vec_items}
 use Rattle.std.proofs.lemmas.List.{take_more, length-set, map-append}
 use Rattle.std.proofs.lemmas.Option.{slice_get-get_or}
-use Rattle.std.specs.List.{slice_get}
 use Rattle.revision.specs.Owned.{sizes_of}
 use Rattle.runs.specs.Several.{addressed_of, EachRan}
 use Rattle.runs.specs.declared.call.Call.{Call}
@@ -47,7 +46,7 @@ returns-in-Err-clause-each g c =
     let r = c.in-Err.ensures in
     each_kept m s c.args.histories.now (vec_items c.loop-addressed.events) _ c.requires
     (each_same m s c.args.histories.now (vec_items c.loop-addressed.events) c.loop-addressed.histories c.addressed-item.result.to c.index-histories-to.result c.step.new.history (omega (arith, c.if-to-histories.false)) c.loop-addressed.invariant.1
-      (λ h es w. went_same m h s es _ c.step.new.history w r.whole r.capacity r.list))
+    (λ h es w. went_same m h s es _ c.step.new.history w r.whole r.capacity r.list))
 
 pub loop-addressed-preserved : goal.loop-addressed-preserved
 loop-addressed-preserved g c =
@@ -62,10 +61,10 @@ loop-addressed-preserved g c =
     let e = sym c.push_reserved.ensures.items in (
       length-set c.loop-addressed.histories c.addressed-item.result.to c.step.new.history ∙ v.0,
       subst (λ (ms : List Noted). EachWent m s c.args.histories.now ms (set c.loop-addressed.histories n.to c.step.new.history)) e
-        (each_more m s c.args.histories.now ns n c.loop-addressed.histories c.index-histories-to.result c.step.new.history (omega (arith, c.if-to-histories.false)) v.1
+          (each_more m s c.args.histories.now ns n c.loop-addressed.histories c.index-histories-to.result c.step.new.history (omega (arith, c.if-to-histories.false)) v.1
           (λ h es w. went_more m h s es _ c.step.new.history (sizes_of c.loop-addressed.space) c.in-Ok.event w v.3 r.whole r.capacity r.list r.right)),
       subst (λ (ms : List Noted). map addressed_of ms ≡ take (i + 1) calls) e
-        (map-append addressed_of ns (n ∷ []) ∙ ap (λ (cs : List Addressed). cs ++ addressed_of n ∷ []) v.2 ∙ sym (take_more calls i c.addressed-item.result c.loop-addressed-test.true ∙ ap (λ (d : Addressed). take i calls ++ d ∷ []) (sym c.addressed-item.is ∙ sym (ap (λ (d : Call). record { to = n.to; call = d }) r.call)))),
+          (map-append addressed_of ns (n ∷ []) ∙ ap (λ (cs : List Addressed). cs ++ addressed_of n ∷ []) v.2 ∙ sym (take_more calls i c.addressed-item.result c.loop-addressed-test.true ∙ ap (λ (d : Addressed). take i calls ++ d ∷ []) (sym c.addressed-item.is ∙ sym (ap (λ (d : Call). record { to = n.to; call = d }) r.call)))),
       c.step.ensures.sizes ∙ v.3,
       omega (arith, c.push_reserved.ensures.capacity, v.4),
     )
