@@ -7,6 +7,9 @@ use Rattle.std.proofs.lemmas.Bool.{eqb-true, eq-eqb, cases_lt, and_parts, and_fr
 use Rattle.ancestry.specs.Sets.{every, next, index_of, absent}
 use Rattle.ancestry.specs.Numbers.{spelled_on, spelled, digits, letters, letter, is_letter, value, reading, from_hex, hex}
 use Rattle.ancestry.specs.Ids.{num}
+use Rattle.std.specs.Str.{IsUtf8}
+use Rattle.std.proofs.lemmas.Str.{IsUtf8-from_ascii}
+use Rattle.std.proofs.lemmas.Str.Ascii.{IsAscii-from_reads}
 use Rattle.ancestry.proofs.Bytes.{num-bits}
 use Rattle.ancestry.specs.Theorems.{HexLaw}
 use Rattle.ancestry.proofs.Spelling.{digits-length, spelled-digits, spelled_shift, spelled_split}
@@ -215,10 +218,16 @@ pub hex_ascii : (n i : ℕ) → i < 40 → get_or (hex n) i 0 < 128
 unfolding hex
 hex_ascii n i l = All-get_or (λ c. c < 128) (hex n) i 0 (let e : length (hex n) ≡ 40 = length-hex n in omega arith) (All-map (λ c. c < 128) letter (digits 16 40 n) (letters_ascii (digits 16 40 n) (small_digits 40 n)))
 
-pub hex_law : HexLaw
+-- so they are a text
+pub hex-is_text : (n : ℕ) → IsUtf8 (hex n)
+hex-is_text n = IsUtf8-from_ascii (hex n) (IsAscii-from_reads (hex n) 40 (let e : length (hex n) ≡ 40 = length-hex n in omega arith) (hex_ascii n))
+
+-- the letters of a number of 160 bits read back as it
+pub hex-back : (n : ℕ) → n < 1461501637330902918203684832716283019655932542976 → from_hex (hex n) ≡ Some n
 unfolding from_hex hex
-hex_law i w =
-    let n : ℕ = num i in
-    let b : n < 1461501637330902918203684832716283019655932542976 = num-bits i w in
+hex-back n b =
     let e : length (map letter (digits 16 40 n)) ≡ 40 = length-map (digits 16 40 n) letter ∙ digits-length 16 40 n in
     rw (eq-eqb (length (map letter (digits 16 40 n))) 40 e) (reading-letters (digits 16 40 n) (small_digits 40 n) ∙ ap Some (spelled-digits 16 40 n (omega arith) b))
+
+pub hex_law : HexLaw
+hex_law i w = hex-back (num i) (num-bits i w)

@@ -1,8 +1,8 @@
-ghost use Rattle.std.specs.Prelude.{◌≡◌, ℕ, ◌+◌, ◌<◌, ◌≤◌, length, Some, IfSome, ◌==◌, position};
+ghost use Rattle.std.specs.Prelude.{◌≡◌, ℕ, ◌+◌, ◌^◌, ◌<◌, ◌≤◌, length, Some, IfSome, ◌==◌, position};
 ghost use Rattle.ancestry.specs.Numbers.{letters, reading, part, from_hex, hex};
 
 use crate::id::Id;
-use std::fmt;
+use std::{fmt, str};
 
 /// The sixteen letters of hexadecimal digits.
 const LETTERS: [u8; 16] = *b"0123456789abcdef";
@@ -28,7 +28,9 @@ impl Id {
 
     /// The forty hexadecimal digits of the id, a to f small.
     pub fn to_hex(self) -> [u8; 40]
-        ensures { result ≡ hex self }
+        ensures letters { result ≡ hex self }
+        ensures back { from_hex result ≡ Some self }
+        ensures bits { self < 2 ^ 160 }
     {
         let bytes = self.to_bytes();
         // Two letters for each byte, at twice its number.
@@ -77,9 +79,8 @@ impl fmt::Display for Id {
     ghost output = { λ i. Some (hex i) };
 
     fn fmt<W: fmt::Write>(&self, f: &mut fmt::Formatter<W>) -> fmt::Result {
-        for letter in self.to_hex() {
-            f.write_char(char::from(letter))?;
-        }
-        Ok(())
+        let letters = self.to_hex();
+        // All letters at once: a formatter takes each piece that it is given on its own.
+        f.write_str(str::from_utf8(&letters).unwrap())
     }
 }

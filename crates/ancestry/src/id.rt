@@ -1,4 +1,4 @@
-ghost use Rattle.std.specs.Prelude.{◌≡◌, ℕ, ◌+◌, ◌<◌, ◌≤◌, length, ◌==◌, nat_lt, nat_eq};
+ghost use Rattle.std.specs.Prelude.{◌≡◌, ℕ, ◌+◌, ◌^◌, ◌<◌, ◌≤◌, length, ◌==◌, nat_lt, nat_eq};
 ghost use Rattle.std.specs.Ordering.{MatchOrdering, nat_cmp, as_partial_cmp};
 ghost use Rattle.std.specs.Cmp.{partial_order_from_own_ties};
 ghost use Rattle.std.specs.Cmp.Rules.{comparing};
@@ -14,7 +14,8 @@ use std::marker::Model;
 /// comparison would speak of the words in every contract, so equality and order are written out and promise the numbers'.
 #[derive(Clone, Copy, Default, Debug)]
 pub struct Id {
-    pub(crate) words: [u32; 5],
+    /// Its words of 32 bits, the most significant first.
+    pub words: [u32; 5],
 }
 
 impl Model for Id {
@@ -90,7 +91,9 @@ impl Id {
 
     /// The words of the id.
     pub fn as_words(&self) -> &[u32; 5]
-        ensures { result.now ≡ digits 4294967296 5 self.now }
+        ensures words { result.now ≡ digits 4294967296 5 self.now }
+        ensures back { spelled 4294967296 result.now ≡ self.now }
+        ensures bits { self.now < 2 ^ 160 }
     {
         &self.words
     }
@@ -112,7 +115,9 @@ impl Id {
 
     /// The bytes of the id.
     pub fn to_bytes(self) -> [u8; 20]
-        ensures { result ≡ digits 256 20 self }
+        ensures bytes { result ≡ digits 256 20 self }
+        ensures back { spelled 256 result ≡ self }
+        ensures bits { self < 2 ^ 160 }
     {
         // Written out: a loop over words and bytes at once would count both by hand.
         let [a, b, c, d, e] = self.words;

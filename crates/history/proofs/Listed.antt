@@ -1,5 +1,5 @@
 -- A table's list of commits by place.
-use Rattle.std.proofs.Common.{◌≡◌, ℕ, ◌<◌, ◌≤◌, true, false, List, [], ◌∷◌, map, length, get_or, Some, None, Option, refl, sym, ap, ◌∙◌, eqb, ltb, cond, arith}
+use Rattle.std.proofs.Common.{◌≡◌, ℕ, zero, suc, ◌<◌, ◌≤◌, true, false, List, [], ◌∷◌, ◌++◌, map, length, get_or, Some, None, Option, refl, sym, ap, ◌∙◌, eqb, ltb, cond, arith}
 use Rattle.std.specs.List.{slice_get, position, position_or_len}
 use Rattle.std.proofs.lemmas.List.{get_or-map, length-map}
 use Rattle.std.proofs.lemmas.Option.{slice_get-get_or, slice_get_past}
@@ -50,3 +50,16 @@ copied_get None xs ys n e l v = sym (slice_get_past xs n (let k : length ys ≤ 
 copied_get (Some x) xs ys n e l v =
     let k : n < length ys = ltb-true n (length ys) (sym l) in
     ap Some v ∙ sym (slice_get-get_or ys n x.now k) ∙ ap (λ (zs : List ℕ). slice_get zs n) e
+
+-- a list in which no commit has more than 16 parents, and one such commit more
+pub few_more : (H : List Commit) (c : Commit) → ((p : ℕ) → length (parents_of H p) ≤ 16) → length c.parents ≤ 16 → (p : ℕ) → length (parents_of (H ++ c ∷ []) p) ≤ 16
+unfolding at
+few_more [] c f l zero = l
+few_more [] c f l (suc p) = omega arith
+few_more (x ∷ H) c f l zero = f zero
+few_more (x ∷ H) c f l (suc p) = few_more H c (λ (q : ℕ). f (suc q)) l p
+
+-- no commit, and so none with more
+pub few_none : (p : ℕ) → length (parents_of [] p) ≤ 16
+unfolding at
+few_none p = omega arith

@@ -1,6 +1,5 @@
 ghost use Rattle.std.specs.Prelude.{◌≡◌, List, []};
-ghost use Rattle.ancestry.specs.Lawful.{Laws};
-ghost use Rattle.history.specs.Tables.{listed};
+ghost use Rattle.history.specs.Tables.{listed, Stored};
 
 use crate::grow::{History, NewCommit};
 use crate::reader::{Entry, Reader};
@@ -19,7 +18,7 @@ pub struct Rows {
 impl Rows {
     /// An empty history.
     pub fn open() -> Rows
-        ensures whole { Laws 512 (listed result.table) }
+        ensures whole { Stored 512 result.table }
         ensures empty { listed result.table ≡ [] }
     {
         Rows {
@@ -29,13 +28,13 @@ impl Rows {
 }
 
 impl Reader for Rows {
-    ghost whole = { λ h. Laws 512 (listed h.table) };
+    ghost whole = { λ h. Stored 512 h.table };
 
     ghost commits = { λ h. listed h.table };
 
     ghost room = { λ _. 512 };
 
-    ghost lawful = { λ _ laws. laws };
+    ghost lawful = { λ _ w. w.laws };
 
     fn count(&mut self) -> usize {
         self.table.len()

@@ -2,6 +2,7 @@ ghost use Rattle.std.specs.Prelude.{◌≡◌, ℕ, ℤ, Option, min};
 ghost use Rattle.orders.specs.Spelling.{decimal_of, date_of, generation_of, above_zero, below_zero};
 
 use crate::from_text::FromText;
+use lines::starts_with;
 
 /// A number: decimal digits, one or more of them; one past the largest u64 counts as that.
 impl FromText for usize {
@@ -27,7 +28,7 @@ impl FromText for i64 {
 
     fn from_text(text: &[u8]) -> Option<i64> {
         match text {
-            [b'-', digits @ ..] => decimal(digits).map(below_zero),
+            [_, digits @ ..] if starts_with(text, b'-') => decimal(digits).map(below_zero),
             _ => decimal(text).map(above_zero),
         }
     }

@@ -3,6 +3,7 @@ ghost use Rattle.orders.specs.Fields.{Via, via, parent_of};
 use crate::from_text::FromText;
 use crate::number::decimal;
 use ancestry::Id;
+use lines::starts_with;
 
 /// A parent as a line names it.
 #[derive(Clone, Copy, PartialEq, Eq, Debug)]
@@ -23,7 +24,9 @@ impl FromText for Parent {
 
     fn from_text(text: &[u8]) -> Option<Parent> {
         match text {
-            [b'@', place @ ..] => usize::from_text(place).map(Parent::Place),
+            [_, place @ ..] if starts_with(text, b'@') => {
+                usize::from_text(place).map(Parent::Place)
+            }
             _ => Id::from_text(text).map(Parent::Named),
         }
     }

@@ -45,6 +45,7 @@ pub fn paint_down_to_common<H: Reader>(
     requires slots { length (H.commits history.old) ≤ length slots.old }
     requires results { length (H.commits history.old) ≤ room results.old }
     ensures same { Unchanged H.Reader history.old history.new }
+    ensures held { results.new.slots.ghost_name ≡ results.old.slots.ghost_name }
     ensures room { room results.new ≡ room results.old }
     ensures few { length (listed results.new) ≤ length (H.commits history.old) }
     ensures inside { AllBelow (length (H.commits history.old)) (listed results.new) }
@@ -75,6 +76,7 @@ pub fn paint_from_places<H: Reader>(
     requires results { length (H.commits history.old) ≤ room results.old }
     requires inside { AllBelow (length (H.commits history.old)) (listed results.old) }
     ensures same { Unchanged H.Reader history.old history.new }
+    ensures held { results.new.slots.ghost_name ≡ results.old.slots.ghost_name }
     ensures room { room results.new ≡ room results.old }
     ensures few { length (listed results.new) ≤ length (H.commits history.old) }
     ensures inside { AllBelow (length (H.commits history.old)) (listed results.new) }

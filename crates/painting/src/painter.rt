@@ -73,6 +73,7 @@ impl<'a, 'q> Painter<'a, 'q> {
         ensures goes { Goes H.Reader history.old history.new self.old self.new }
         ensures good { (A B : ℕ → Bool) → Down (H.commits history.old) A → Down (H.commits history.old) B → Good (H.commits history.old) A B (flags self.old.marks.now) → Good (H.commits history.old) A B (flags self.new.marks.now) }
         ensures idle { total lively (flags self.new.marks.now) ≡ 0 }
+        ensures held { results.new.slots.ghost_name ≡ results.old.slots.ghost_name }
         ensures room { room results.new ≡ room results.old }
         ensures noted { Noted (flags self.new.marks.now) (listed results.new) }
         ensures unmet { Unmet (flags self.new.marks.now) }

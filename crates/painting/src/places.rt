@@ -19,6 +19,7 @@ impl<'a> Places<'a> {
 
     /// An empty list that has room for as many places as the slice has slots.
     pub fn new(slots: &'a mut [usize]) -> Places<'a>
+        ensures held { result.slots.ghost_name ≡ slots.entry.ghost_name }
         ensures empty { listed result ≡ [] }
         ensures room { room result ≡ length slots.old }
     {
@@ -28,6 +29,7 @@ impl<'a> Places<'a> {
     /// The list that the first `len` slots hold.
     pub fn of_first(slots: &'a mut [usize], len: usize) -> Places<'a>
         requires { len ≤ length slots.old }
+        ensures held { result.slots.ghost_name ≡ slots.entry.ghost_name }
         ensures listed { listed result ≡ take len slots.old }
         ensures room { room result ≡ length slots.old }
     {
@@ -44,6 +46,7 @@ impl<'a> Places<'a> {
     /// Puts a place at the end of the list, which has room.
     pub fn push(&mut self, place: usize)
         requires { length (listed self.old) < room self.old }
+        ensures held { self.new.slots.ghost_name ≡ self.old.slots.ghost_name }
         ensures room { room self.new ≡ room self.old }
         ensures listed { listed self.new ≡ listed self.old ++ place ∷ [] }
     {
@@ -53,6 +56,7 @@ impl<'a> Places<'a> {
 
     /// Takes the place at the end of the list, if it has one.
     pub(crate) fn pop(&mut self) -> Option<usize>
+        ensures held { self.new.slots.ghost_name ≡ self.old.slots.ghost_name }
         ensures room { room self.new ≡ room self.old }
         ensures answer { MatchOption result ((listed self.old ≡ []) × (listed self.new ≡ [])) (λ p. listed self.old ≡ listed self.new ++ p ∷ []) }
     {
@@ -63,8 +67,18 @@ impl<'a> Places<'a> {
         Some(self.slots[self.len])
     }
 
+    /// Keeps the first `len` places; a list that has no more stays as it is.
+    pub fn truncate(&mut self, len: usize)
+        ensures held { self.new.slots.ghost_name ≡ self.old.slots.ghost_name }
+        ensures room { room self.new ≡ room self.old }
+        ensures listed { listed self.new ≡ take len (listed self.old) }
+    {
+        self.len = self.len.min(len);
+    }
+
     /// Empties the list.
     pub(crate) fn clear(&mut self)
+        ensures held { self.new.slots.ghost_name ≡ self.old.slots.ghost_name }
         ensures room { room self.new ≡ room self.old }
         ensures empty { listed self.new ≡ [] }
     {
@@ -74,6 +88,7 @@ impl<'a> Places<'a> {
     /// Keeps the places that pass a test, in their order.
     pub(crate) fn retain<F: Fn(usize) -> bool>(&mut self, test: F)
         requires { (p : ℕ) → member p (listed self.old) ≡ true → F.pre test p }
+        ensures held { self.new.slots.ghost_name ≡ self.old.slots.ghost_name }
         ensures room { room self.new ≡ room self.old }
         ensures kept { (t : ℕ → Bool) → ((p : ℕ) (b : Bool) → member p (listed self.old) ≡ true → F.post test p b → b ≡ t p) → listed self.new ≡ keep t (listed self.old) }
     {

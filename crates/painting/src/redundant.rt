@@ -31,6 +31,7 @@ pub fn remove_redundant<H: Reader>(
     requires inside { AllBelow (length (H.commits history.old)) (listed results.old) }
     requires unmet { Unmet (flags marks.old) }
     ensures same { Unchanged H.Reader history.old history.new }
+    ensures held { results.new.slots.ghost_name ≡ results.old.slots.ghost_name }
     ensures room { room results.new ≡ room results.old }
     ensures few { length (listed results.new) ≤ length (listed results.old) }
     ensures inside { AllBelow (length (H.commits history.old)) (listed results.new) }
@@ -55,6 +56,7 @@ pub fn remove_redundant<H: Reader>(
 // Keeps the places above which no result is known.
 fn retain_left(marks: &[u64], places: &mut Places<'_>)
     requires inside { AllBelow (length marks.now) (listed places.old) }
+    ensures held { places.new.slots.ghost_name ≡ places.old.slots.ghost_name }
     ensures room { room places.new ≡ room places.old }
     ensures kept { listed places.new ≡ keep (λ p. left (mark (flags marks.now) p)) (listed places.old) }
 {

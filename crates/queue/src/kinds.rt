@@ -44,8 +44,9 @@ impl Entry for Keyed {
 
     fn is_better(&self, other: &Keyed) -> bool {
         let by_generation = self.generation.cmp(&other.generation);
-        let by_key = by_generation.then(self.date.cmp(&other.date));
-        by_key.then(other.id.cmp(&self.id)).is_gt()
+        // Most entries differ in what is compared first, and the rest is compared of the others alone.
+        let by_key = by_generation.then_with(|| self.date.cmp(&other.date));
+        by_key.then_with(|| other.id.cmp(&self.id)).is_gt()
     }
 }
 
@@ -64,6 +65,6 @@ impl Entry for Dated {
 
     fn is_better(&self, other: &Dated) -> bool {
         let by_date = self.date.cmp(&other.date);
-        by_date.then(other.id.cmp(&self.id)).is_gt()
+        by_date.then_with(|| other.id.cmp(&self.id)).is_gt()
     }
 }

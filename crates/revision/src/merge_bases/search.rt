@@ -122,7 +122,8 @@ impl<'a> Search<'a> {
         ensures fits { Fits (length (H.commits history.old)) self.new }
         ensures bests { Bests (H.commits history.old) (meeting (H.commits history.old) id (listed self.old.results)) (listed self.new.results) }
     {
-        paint_from_places(history, id, self.marks, self.queue, &mut self.results);
-        remove_redundant(history, self.marks, &mut self.results, self.stack);
+        let results = &mut self.results;
+        paint_from_places(history, id, self.marks, self.queue, results);
+        remove_redundant(history, self.marks, results, self.stack);
     }
 }

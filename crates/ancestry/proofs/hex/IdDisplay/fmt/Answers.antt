@@ -1,18 +1,15 @@
-use Rattle.std.proofs.Common.{◌≡◌, ◌<◌, ◌++◌, List, ℕ, refl, sym, ap, ◌∙◌, take, get_or, length, arith}
-use Rattle.std.proofs.lemmas.List.{take_more}
-use Rattle.std.proofs.lemmas.Grind.{put_two}
-use Rattle.std.proofs.lemmas.Str.{encode_ascii}
-use lib.Utf8.{encode}
-use Rattle.ancestry.specs.Numbers.{hex}
-use Rattle.ancestry.proofs.Letters.{hex_ascii, length-hex}
+use Rattle.std.proofs.Common.{sym, subst, refl, ℕ, List, Result, Ok, Err}
+use Rattle.std.specs.Result.{MatchResult, IsOk}
+use Rattle.std.specs.Str.{IsUtf8}
+use Rattle.ancestry.proofs.Letters.{hex-is_text}
 use Rattle.ancestry.proofs.hex.IdDisplay.fmt.Goals as goal
 
-pub loop-letter-preserved : goal.loop-letter-preserved
-loop-letter-preserved g c plain =
-    let before = c.loop-letter.invariant plain in
-    let l : c.loop-letter.letter-index < 40 = omega arith in
-    let n : length (hex c.args.self.now) ≡ 40 = length-hex c.args.self.now in
-    let e : c.from.result ≡ get_or (hex c.args.self.now) c.loop-letter.letter-index 0 = c.from.ensures ∙ ap (λ (r : List ℕ). get_or r c.loop-letter.letter-index 0) c.to_hex-letter-items.ensures in
-    put_two _ _ _ _ _ _ _ before (c.in_ok-write_char.ensures.writes before.plain refl)
-    (ap (λ (r : List ℕ). take c.loop-letter.letter-index (hex c.args.self.now) ++ r) (ap encode e ∙ encode_ascii _ (hex_ascii c.args.self.now c.loop-letter.letter-index l))
-    ∙ sym (take_more (hex c.args.self.now) c.loop-letter.letter-index 0 (omega arith)))
+-- what is a text is read as one
+read_as_text : {T E : Type 0} (U : Type 0) (P : T → Type 0) (Q : E → Type 0) (r : Result T E) → U → MatchResult r P (λ e. (U → ⊥) × Q e) → IsOk r
+read_as_text U P Q (Ok x) u m = refl
+read_as_text U P Q (Err e) u m = absurd (m.0 u)
+
+pub unwrap-requires : goal.unwrap-requires
+unwrap-requires g c =
+    let text : IsUtf8 c.to_hex-letters.result = subst (λ (t : List ℕ). IsUtf8 t) (sym c.to_hex-letters.ensures.letters) (hex-is_text _) in
+    read_as_text (IsUtf8 c.to_hex-letters.result) _ _ c.from_utf8.result text c.from_utf8.ensures.cases

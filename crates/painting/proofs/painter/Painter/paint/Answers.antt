@@ -10,6 +10,7 @@ use Rattle.painting.specs.Marks.{mark, turn, newly, total, cost}
 use Rattle.painting.specs.Painted.{Kept, Noted, Good, Unmet}
 use Rattle.painting.specs.Painters.{Ready, Goes}
 use Rattle.painting.specs.declared.marks.Mark.{Mark}
+use Rattle.painting.specs.declared.places.Places.{Places}
 use Rattle.painting.proofs.Codes.{length-flags}
 use Rattle.painting.proofs.Counts.{took_best, take_some, taken-waits, waiting_inside, kept_taken, turn_written, cost-turn}
 use Rattle.painting.proofs.Going.{goes_then}
@@ -91,13 +92,18 @@ loop-self-preserved g c =
       | then-is_newly_result w ↦ subst (Noted (turn H p ms)) (sym (ap listed w.results-is ∙ w.push.ensures.listed)) (noted_new H p ms (listed c.loop-self.results) (inside g b) (ap newly (sym c.mark-mark.ensures) ∙ sym c.is_newly_result.ensures ∙ w.if-is_newly_result.true) i.2)
       | else-is_newly_result w ↦ subst (Noted (turn H p ms)) (sym (ap listed w.results-is)) (noted_old H p ms (listed c.loop-self.results) (inside g b) (ap newly (sym c.mark-mark.ensures) ∙ sym c.is_newly_result.ensures ∙ w.if-is_newly_result.false) i.2)
     ] in
-    let held : room c.if-is_newly_result.results ≡ room c.loop-self.results = elim c.if-is_newly_result.branch [
+    let size : room c.if-is_newly_result.results ≡ room c.loop-self.results = elim c.if-is_newly_result.branch [
       | then-is_newly_result w ↦ ap room w.results-is ∙ w.push.ensures.room
       | else-is_newly_result w ↦ ap room w.results-is
+    ] in
+    let held : c.if-is_newly_result.results.slots.ghost_name ≡ c.loop-self.results.slots.ghost_name = elim c.if-is_newly_result.branch [
+      | then-is_newly_result w ↦ ap (λ (p : Places). p.slots.ghost_name) w.results-is ∙ w.push.ensures.held
+      | else-is_newly_result w ↦ ap (λ (p : Places). p.slots.ghost_name) w.results-is
     ] in (
       goes_then i.0 (goes_then s c.tell_parents.ensures.goes),
       λ A B da db go. subst (Good H A B) (sym e) (good_turn H A B L da db ms p n (omega (arith, inside g b)) (i.1 A B da db go)),
       subst (λ (x : List Mark). Noted x (listed c.if-is_newly_result.results)) (sym e) noted,
       subst Unmet (sym e) (unmet-turn H p ms i.3),
-      held ∙ i.4,
+      size ∙ i.4,
+      held ∙ i.5,
     )

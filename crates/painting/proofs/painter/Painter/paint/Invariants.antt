@@ -14,6 +14,7 @@ invariant-loop-self g l =
     × Noted (flags l.self.marks.now) (listed l.results)
     × Unmet (flags l.self.marks.now)
     × (room l.results ≡ room l.fn.results)
+    × (l.results.slots.ghost_name ≡ l.fn.results.slots.ghost_name)
 
 abbrev pub decreases-loop-self : goal.decreases-loop-self
 decreases-loop-self g l = total cost (flags l.self.marks.now)

@@ -7,7 +7,7 @@ use Rattle.painting.proofs.places.Places.retain.Goals as goal
 use Rattle.painting.proofs.places.Places.retain.Goals.{then-test, else-test, After-test}
 
 pub loop-i-init : goal.loop-i-init
-loop-i-init g c = (λ t h. keep_none t, λ j h. refl, omega arith, refl)
+loop-i-init g c = (λ t h. keep_none t, λ j h. refl, omega arith, refl, refl)
 
 -- what is read is of the list, as it was
 read : (g : _) (c : goal.After-test g) → member (get_or c.loop-i.self.slots.now c.loop-i.i 0) (listed c.args.self.now) ≡ true
@@ -33,11 +33,13 @@ loop-i-preserved g c =
         λ j h. get_or-set_other ks n j x 0 (omega (arith, c.loop-i.invariant.2)) ∙ c.loop-i.invariant.1 j (omega arith),
         omega (arith, c.loop-i.invariant.2),
         length-set ks n x ∙ c.loop-i.invariant.3,
+        c.loop-i.invariant.4,
       )
       | else-test w ↦ rw w.self-is (
         λ t k. keep_passed t (take n ks) ps i x l e (sym (k x c.test.result r c.test.ensures) ∙ w.if-test.false) (c.loop-i.invariant.0 t k),
         λ j h. c.loop-i.invariant.1 j (omega arith),
         omega (arith, c.loop-i.invariant.2),
         c.loop-i.invariant.3,
+        c.loop-i.invariant.4,
       )
     ]

@@ -9,3 +9,4 @@ invariant-loop-i g l =
     × ((j : ℕ) → l.i ≤ j → get_or l.self.slots.now j 0 ≡ get_or l.fn.self.slots.now j 0)
     × (l.self.len ≤ l.i)
     × (length l.self.slots.now ≡ length l.fn.self.slots.now)
+    × (l.self.slots.ghost_name ≡ l.fn.self.slots.ghost_name)
