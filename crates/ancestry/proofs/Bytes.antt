@@ -5,7 +5,7 @@ use Rattle.std.proofs.ByRecursion.{All-get_or, All-append}
 use Rattle.ancestry.specs.Numbers.{spelled_on, spelled, digits, part}
 use Rattle.ancestry.specs.Digits.{digits-spelled}
 use Rattle.ancestry.specs.Ids.{num, Words, words_of, words_back}
-use Rattle.ancestry.specs.declared.id.Id.TheInside.{Inside}
+use Rattle.ancestry.specs.declared.id.Id.{Id}
 use Rattle.ancestry.specs.Theorems.{IdLaw}
 use Rattle.ancestry.proofs.Spelling.{part-cons, part_all, part_length, part_split, spelled_shift, spelled_split}
 
@@ -77,7 +77,7 @@ id_bytes v w x y z a b c d e =
     ap (digits 256 20) (sym (spelled_words 0 (v ∷ w ∷ x ∷ y ∷ z ∷ []) (a, (b, (c, (d, (e, tt)))))))
     ∙ digits-spelled 256 (all_bytes (v ∷ w ∷ x ∷ y ∷ z ∷ [])) 20 refl (λ j l. All-get_or (λ b. b < 256) (all_bytes (v ∷ w ∷ x ∷ y ∷ z ∷ [])) j 0 l (all_small (v ∷ w ∷ x ∷ y ∷ z ∷ [])))
 
-word_bits : (i : Inside) → Words i → (j : ℕ) → j < length i.words → get_or i.words j 0 < 4294967296
+word_bits : (i : Id) → Words i → (j : ℕ) → j < length i.words → get_or i.words j 0 < 4294967296
 word_bits i w j l = All-get_or (λ d. d < 4294967296) i.words j 0 l w.bits
 
 pub spelled_five : (v w x y z : ℕ) →
@@ -86,7 +86,7 @@ unfolding spelled_on
 spelled_five v w x y z = omega arith
 
 -- the number of an id has 160 bits
-pub num-bits : (i : Inside) → Words i → num i < 1461501637330902918203684832716283019655932542976
+pub num-bits : (i : Id) → Words i → num i < 1461501637330902918203684832716283019655932542976
 num-bits i w =
     let e : num i ≡ (((get_or i.words 0 0 * 4294967296 + get_or i.words 1 0) * 4294967296 + get_or i.words 2 0) * 4294967296 + get_or i.words 3 0) * 4294967296 + get_or i.words 4 0
     = ap (spelled 4294967296) (five i.words w.five) ∙ spelled_five _ _ _ _ _ in
@@ -94,7 +94,7 @@ num-bits i w =
     omega (arith, word_bits i w 0 (omega arith), word_bits i w 1 (omega arith), word_bits i w 2 (omega arith), word_bits i w 3 (omega arith), word_bits i w 4 (omega arith))
 
 -- the twenty bytes of an id, as the four bytes of each word are read out
-pub id_bytes_out : (i : Inside) → Words i → (n : ℕ) → num i ≡ n → (a b c d e : List ℕ) →
+pub id_bytes_out : (i : Id) → Words i → (n : ℕ) → num i ≡ n → (a b c d e : List ℕ) →
     a ≡ bytes_of (get_or i.words 0 0) → b ≡ bytes_of (get_or i.words 1 0) → c ≡ bytes_of (get_or i.words 2 0) → d ≡ bytes_of (get_or i.words 3 0) → e ≡ bytes_of (get_or i.words 4 0)
     → (get_or a 0 0 ∷ get_or a 1 0 ∷ get_or a 2 0 ∷ get_or a 3 0 ∷ get_or b 0 0 ∷ get_or b 1 0 ∷ get_or b 2 0 ∷ get_or b 3 0 ∷ get_or c 0 0 ∷ get_or c 1 0 ∷ get_or c 2 0 ∷ get_or c 3 0 ∷ get_or d 0 0 ∷ get_or d 1 0 ∷ get_or d 2 0 ∷ get_or d 3 0 ∷ get_or e 0 0 ∷ get_or e 1 0 ∷ get_or e 2 0 ∷ get_or e 3 0 ∷ [])
     ≡ digits 256 20 n

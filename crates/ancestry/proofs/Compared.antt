@@ -1,5 +1,5 @@
 -- Digits compare as the numbers that they spell.
-use Rattle.std.proofs.Common.{◌≡◌, ℕ, suc, ◌+◌, ◌*◌, ◌<◌, ◌≤◌, List, [], ◌∷◌, length, refl, sym, ap, ◌∙◌, arith, nat_cmp, is_eq, nat_eq}
+use Rattle.std.proofs.Common.{◌≡◌, ℕ, suc, ◌+◌, ◌*◌, ◌<◌, ◌≤◌, List, [], ◌∷◌, length, refl, sym, ap, ◌∙◌, subst, arith, nat_cmp, is_eq, nat_eq}
 use Rattle.std.proofs.Math.Nat.{mul-le-mul_left, mul_comm}
 use Rattle.std.specs.declared.cmp.Ordering.{Ordering}
 use Rattle.std.specs.declared.cmp.Ordering.TheVariants.{Less, Equal, Greater}
@@ -9,6 +9,10 @@ use Rattle.std.specs.Cmp.Lexicographic.{slice_cmp, pointwise}
 use Rattle.std.specs.List.{AllByRecursion}
 use Rattle.std.proofs.lemmas.Map.Text.{is_eq-slice_cmp}
 use Rattle.ancestry.specs.Numbers.{spelled_on, spelled}
+use Rattle.ancestry.specs.Ids.{num, Words, same_words, same_id, words_cmp, id_cmp}
+use Rattle.ancestry.specs.declared.id.Id.{Id}
+use Rattle.ancestry.specs.Theorems.{OrderLaw}
+use Rattle.ancestry.proofs.Bytes.{id_law}
 
 -- a number below another lies below it with any digit after each
 below_then : (b n m x y : ℕ) → x < b → n < m → n * b + x < m * b + y
@@ -57,3 +61,21 @@ pub eq-spelled : (b : ℕ) (xs ys : List ℕ) → length xs ≡ length ys → Al
     pointwise nat_eq xs ys ≡ nat_eq (spelled b xs) (spelled b ys)
 eq-spelled b xs ys e p q =
     sym (is_eq-slice_cmp xs ys) ∙ ap is_eq (cmp-spelled b xs ys e p q) ∙ sym (unsigned_ties (spelled b xs) (spelled b ys))
+
+-- ids are equal and compare by their words as by their numbers
+pub same_by_number : (a b : Id) → Words a → Words b → same_words a b ≡ same_id a b
+same_by_number a b v w = eq-spelled 4294967296 a.words b.words (v.five ∙ sym w.five) v.bits w.bits
+
+pub by_number : (a b : Id) → Words a → Words b → words_cmp a b ≡ id_cmp a b
+by_number a b v w = cmp-spelled 4294967296 a.words b.words (v.five ∙ sym w.five) v.bits w.bits
+
+pub order_ids : (a b : Id) (o : Ordering) → Words a → Words b → o ≡ id_cmp a b → MatchOrdering o (num a < num b) (a ≡ b) (num b < num a)
+order_ids a b o v w e = go o (subst (λ (x : Ordering). MatchOrdering x (num a < num b) (num a ≡ num b) (num b < num a)) (sym e) (ranks (num a) (num b)))
+  where
+    go : (o : Ordering) → MatchOrdering o (num a < num b) (num a ≡ num b) (num b < num a) → MatchOrdering o (num a < num b) (a ≡ b) (num b < num a)
+    go Less h = h
+    go Equal h = id_law a b v w h
+    go Greater h = h
+
+pub order_law : OrderLaw
+order_law a b v w = (same_by_number a b v w, by_number a b v w)

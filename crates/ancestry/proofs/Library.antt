@@ -4,6 +4,8 @@ use Rattle.std.specs.List.{position, position_or_len, list_any, list_all}
 use Rattle.std.proofs.lemmas.Bool.Decides.{nat_tests}
 use Rattle.std.proofs.lemmas.Bool.{ltb-true, ltb-false, lt-ltb, le-ltb}
 use Rattle.ancestry.specs.Sets.{any, every, member, next, index_of}
+use Rattle.ancestry.specs.Ids.{num, nums, same_id}
+use Rattle.ancestry.specs.declared.id.Id.{Id}
 
 pub list_any-any : (t : ℕ → Bool) (xs : List ℕ) → list_any t xs ≡ any t xs
 unfolding any
@@ -22,6 +24,17 @@ pub list_any-member : (x : ℕ) (ys : List ℕ) → list_any (λ y. eqb y x) ys 
 unfolding member any
 list_any-member x [] = refl
 list_any-member x (y ∷ ys) = rw (eqb_swap x y, list_any-member x ys)
+
+-- ids in a list are their numbers in the list of numbers
+pub any-same : (i : Id) (js : List Id) → list_any (λ j. same_id j i) js ≡ member (num i) (nums js)
+unfolding member any
+any-same i [] = refl
+any-same i (j ∷ js) = rw (eqb_swap (num i) (num j), any-same i js)
+
+pub all-same : (i : Id) (js : List Id) → list_all (same_id i) js ≡ every (eqb (num i)) (nums js)
+unfolding every
+all-same i [] = refl
+all-same i (j ∷ js) = rw (all-same i js)
 
 -- the steps of a search from the front
 moved : (k n : ℕ) (t : Bool) → ltb k n ≡ t → cond (ltb (1 + k) (suc n)) (Some (1 + k)) None ≡ next (cond t (Some k) None)

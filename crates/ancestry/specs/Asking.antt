@@ -1,5 +1,7 @@
 -- What is lent to a question, why it is refused, and what it leaves in the answer slots.
 use Rattle.std.specs.Prelude.{◌≡◌, ℕ, ◌+◌, ◌*◌, Bool, cond, ◌||◌, List, take, drop, Some, None, Ok, Err, Option, Result, nat_lt, slice_set}
+use Rattle.ancestry.specs.Ids.{nums, num_if}
+use Rattle.ancestry.specs.declared.id.Id.{Id}
 use Rattle.ancestry.specs.declared.refusal.Refusal.{Refusal}
 use Rattle.ancestry.specs.declared.refusal.Refusal.TheVariants.{TooManyOthers, WorkspaceShort}
 
@@ -22,13 +24,18 @@ short s n =
 unfoldable pub denied : Space → ℕ → ℕ → Option Refusal
 denied s n others = cond (nat_lt 1000 others) (Some TooManyOthers) (cond (short s n) (Some WorkspaceShort) None)
 
+-- an answer that is an id or none, by the id's number
+abbrev pub numbered : Result (Option Id) Refusal → Result (Option ℕ) Refusal
+numbered (Ok o) = Ok (num_if o)
+numbered (Err f) = Err f
+
 -- the answer slots after merge_base: the list stands in the first of them, and the others stay; on refusal all stay
-abbrev pub Listed : List ℕ → List ℕ → Result ℕ Refusal → List ℕ → Type 0
-Listed list before (Ok n) after = (take n after ≡ list) × (drop n after ≡ drop n before)
+abbrev pub Listed : List ℕ → List Id → Result ℕ Refusal → List Id → Type 0
+Listed list before (Ok n) after = (nums (take n after) ≡ list) × (drop n after ≡ drop n before)
 Listed list before (Err f) after = after ≡ before
 
 -- the answer slots after octopus: the commit answered stands in the first of them, and the others stay; without one all stay
-abbrev pub first_slot : List ℕ → Result (Option ℕ) Refusal → List ℕ
+abbrev pub first_slot : List Id → Result (Option Id) Refusal → List Id
 first_slot before (Ok (Some i)) = slice_set before 0 i
 first_slot before (Ok None) = before
 first_slot before (Err f) = before

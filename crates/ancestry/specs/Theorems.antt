@@ -11,15 +11,19 @@ use Rattle.ancestry.specs.Describe.{describe}
 use Rattle.ancestry.specs.Nearest.{trimmed, DatesFall, NamesFit, Nearest}
 use Rattle.ancestry.specs.Intake.{refusal, Lowest}
 use Rattle.ancestry.specs.Numbers.{from_hex, hex}
-use Rattle.ancestry.specs.Ids.{num, Words}
-use Rattle.ancestry.specs.declared.id.Id.TheInside.{Inside}
+use Rattle.ancestry.specs.Ids.{num, Words, same_words, same_id, words_cmp, id_cmp}
+use Rattle.ancestry.specs.declared.id.Id.{Id}
 
 -- IDS. Two ids with one number are equal, and an id's letters read back as its number.
 abbrev pub IdLaw : Type 0
-IdLaw = (a b : Inside) → Words a → Words b → num a ≡ num b → a ≡ b
+IdLaw = (a b : Id) → Words a → Words b → num a ≡ num b → a ≡ b
 
 abbrev pub HexLaw : Type 0
-HexLaw = (i : Inside) → Words i → from_hex (hex (num i)) ≡ Some (num i)
+HexLaw = (i : Id) → Words i → from_hex (hex (num i)) ≡ Some (num i)
+
+-- Ids are equal and compare by their words as by their numbers.
+abbrev pub OrderLaw : Type 0
+OrderLaw = (a b : Id) → Words a → Words b → (same_words a b ≡ same_id a b) × (words_cmp a b ≡ id_cmp a b)
 
 -- PLACES. A place found holds the id; where none is found, no place does.
 abbrev pub PlaceLaw : Type 0

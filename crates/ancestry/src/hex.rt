@@ -1,4 +1,6 @@
 ghost use Rattle.std.specs.Prelude.{◌≡◌, ℕ, ◌+◌, ◌^◌, ◌<◌, ◌≤◌, length, Some, IfSome, ◌==◌, position};
+ghost use Rattle.std.specs.Option.{option_map};
+ghost use Rattle.ancestry.specs.Ids.{num, num_if, words_of};
 ghost use Rattle.ancestry.specs.Numbers.{letters, reading, part, from_hex, hex};
 
 use crate::id::Id;
@@ -10,7 +12,8 @@ const LETTERS: [u8; 16] = *b"0123456789abcdef";
 impl Id {
     /// The id that forty hexadecimal digits spell, a to f small, or none.
     pub fn from_hex(text: &[u8]) -> Option<Id>
-        ensures { result ≡ from_hex text.now }
+        ensures number { num_if result ≡ from_hex text.now }
+        ensures held { result ≡ option_map words_of (from_hex text.now) }
     {
         if text.len() != 40 {
             return None;
@@ -28,9 +31,10 @@ impl Id {
 
     /// The forty hexadecimal digits of the id, a to f small.
     pub fn to_hex(self) -> [u8; 40]
-        ensures letters { result ≡ hex self }
-        ensures back { from_hex result ≡ Some self }
-        ensures bits { self < 2 ^ 160 }
+        ensures letters { result ≡ hex (num self) }
+        ensures back { from_hex result ≡ Some (num self) }
+        ensures bits { num self < 2 ^ 160 }
+        ensures held { self ≡ words_of (num self) }
     {
         let bytes = self.to_bytes();
         // Two letters for each byte, at twice its number.
@@ -76,7 +80,7 @@ fn digit(letter: u8) -> Option<usize>
 }
 
 impl fmt::Display for Id {
-    ghost output = { λ i. Some (hex i) };
+    ghost output = { λ i. Some (hex (num i)) };
 
     fn fmt<W: fmt::Write>(&self, f: &mut fmt::Formatter<W>) -> fmt::Result {
         let letters = self.to_hex();

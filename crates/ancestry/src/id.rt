@@ -4,45 +4,31 @@ ghost use Rattle.std.specs.Cmp.{partial_order_from_own_ties};
 ghost use Rattle.std.specs.Cmp.Rules.{comparing};
 ghost use Rattle.std.proofs.Common.{rules};
 ghost use Rattle.ancestry.specs.Numbers.{spelled, digits, part};
+ghost use Rattle.ancestry.specs.Ids.{num, same_id, id_cmp, same_words, words_cmp, Words, words_of};
 
 use std::cmp::Ordering;
-use std::marker::Model;
 
 /// The id of a commit: twenty bytes, held as five words of 32 bits, the most significant byte first.
 ///
-/// A contract sees an id as its number, and ids compare as their numbers do, which is from their first byte. A derived
-/// comparison would speak of the words in every contract, so equality and order are written out and promise the numbers'.
+/// Contracts speak of its number, `num`. Ids are equal and compare from their first byte, which is by their words and by their
+/// numbers alike: equality and order are written out, since derived ones would promise it of the words alone.
 #[derive(Clone, Copy, Default, Debug)]
 pub struct Id {
     /// Its words of 32 bits, the most significant first.
     pub words: [u32; 5],
 }
 
-impl Model for Id {
-    ghost use Rattle.std.specs.Prelude.{ℕ};
-    ghost use Rattle.std.specs.Coded.{coded_ℕ};
-
-    ghost Value = { ℕ };
-
-    ghost coded = { coded_ℕ };
-
-    ghost use Rattle.ancestry.specs.Ids.{num, Words, words_of, words_back};
-
-    ghost view = { num };
-
-    ghost invariant = { Words };
-
-    ghost inverse = { words_of };
-
-    ghost inverse_ok = { words_back };
-}
-
 impl PartialEq for Id {
-    ghost eq = { nat_eq };
+    ghost eq = { same_words };
 
     ghost laws = { Prim.search (comparing, rules) };
 
-    fn eq(&self, other: &Id) -> bool {
+    fn eq(&self, other: &Id) -> bool
+        ensures words { result ≡ same_words self.now other.now }
+        ensures number { result ≡ same_id self.now other.now }
+    {
+        self.read_words();
+        other.read_words();
         self.words == other.words
     }
 }
@@ -52,7 +38,7 @@ impl Eq for Id {
 }
 
 impl Ord for Id {
-    ghost cmp = { nat_cmp };
+    ghost cmp = { words_cmp };
 
     ghost total = { Prim.search (comparing, rules) };
 
@@ -60,17 +46,25 @@ impl Ord for Id {
 
     ghost matches_eq = { Prim.search (comparing, rules) };
 
-    fn cmp(&self, other: &Id) -> Ordering {
+    fn cmp(&self, other: &Id) -> Ordering
+        ensures words { result ≡ words_cmp self.now other.now }
+        ensures number { result ≡ id_cmp self.now other.now }
+    {
+        self.read_words();
+        other.read_words();
         self.words.cmp(&other.words)
     }
 }
 
 impl PartialOrd for Id {
-    ghost partial_cmp = { as_partial_cmp nat_cmp };
+    ghost partial_cmp = { as_partial_cmp words_cmp };
 
     ghost laws = { partial_order_from_own_ties (Prim.search (comparing, rules)) (Prim.search (comparing, rules)) };
 
-    fn partial_cmp(&self, other: &Id) -> Option<Ordering> {
+    fn partial_cmp(&self, other: &Id) -> Option<Ordering>
+        ensures words { result ≡ as_partial_cmp words_cmp self.now other.now }
+        ensures number { result ≡ as_partial_cmp id_cmp self.now other.now }
+    {
         Some(self.cmp(other))
     }
 }
@@ -80,27 +74,27 @@ impl PartialOrd for Id {
 impl Id {
     /// The id whose words of 32 bits these are, the most significant first.
     pub fn from_words(words: [u32; 5]) -> Id
-        ensures { result ≡ spelled 4294967296 words }
+        ensures held { result.words ≡ words }
+        ensures number { num result ≡ spelled 4294967296 words }
     {
-        // Word by word, so that each is known to have 32 bits.
-        let [first, second, third, fourth, fifth] = words;
-        Id {
-            words: [first, second, third, fourth, fifth],
-        }
+        Id { words }
     }
 
     /// The words of the id.
     pub fn as_words(&self) -> &[u32; 5]
-        ensures words { result.now ≡ digits 4294967296 5 self.now }
-        ensures back { spelled 4294967296 result.now ≡ self.now }
-        ensures bits { self.now < 2 ^ 160 }
+        ensures words { result.now ≡ digits 4294967296 5 (num self.now) }
+        ensures back { spelled 4294967296 result.now ≡ num self.now }
+        ensures bits { num self.now < 2 ^ 160 }
+        ensures held { self.now ≡ words_of (num self.now) }
     {
+        self.read_words();
         &self.words
     }
 
     /// The id whose bytes these are.
     pub fn from_bytes(bytes: [u8; 20]) -> Id
-        ensures { result ≡ spelled 256 bytes }
+        ensures number { num result ≡ spelled 256 bytes }
+        ensures held { result ≡ words_of (spelled 256 bytes) }
     {
         Id {
             words: [
@@ -115,10 +109,12 @@ impl Id {
 
     /// The bytes of the id.
     pub fn to_bytes(self) -> [u8; 20]
-        ensures bytes { result ≡ digits 256 20 self }
-        ensures back { spelled 256 result ≡ self }
-        ensures bits { self < 2 ^ 160 }
+        ensures bytes { result ≡ digits 256 20 (num self) }
+        ensures back { spelled 256 result ≡ num self }
+        ensures bits { num self < 2 ^ 160 }
+        ensures held { self ≡ words_of (num self) }
     {
+        self.read_words();
         // Written out: a loop over words and bytes at once would count both by hand.
         let [a, b, c, d, e] = self.words;
         let a = a.to_be_bytes();
@@ -132,27 +128,39 @@ impl Id {
         ]
     }
 
-    // `==`, `<` and `cmp` say the same: the three are public, and promise it by name.
+    // `==` and `cmp` say the same, and `<` says it of the words: the three are public, and promise it by name.
 
     /// Whether the two ids are one.
     pub fn same(self, other: Id) -> bool
-        ensures { result ≡ (self == other) }
+        ensures { result ≡ (num self == num other) }
     {
         self == other
     }
 
     /// Whether the id comes before the other, from the first byte.
     pub fn lower(self, other: Id) -> bool
-        ensures { result ≡ nat_lt self other }
+        ensures { result ≡ nat_lt (num self) (num other) }
     {
+        self.read_words();
+        other.read_words();
         self < other
     }
 
     /// How the id compares with the other, from the first byte.
     pub fn order(self, other: Id) -> Ordering
-        ensures { MatchOrdering result (self < other) (self ≡ other) (other < self) }
+        ensures { MatchOrdering result (num self < num other) (self ≡ other) (num other < num self) }
     {
+        self.read_words();
+        other.read_words();
         self.cmp(&other)
+    }
+
+    // Each word has 32 bits, as its type says. The check knows it of the words that a function reads, so a function that compares
+    // or spells all of them calls this one.
+    fn read_words(&self)
+        ensures { Words self.now }
+    {
+        let [_first, _second, _third, _fourth, _fifth] = self.words;
     }
 }
 

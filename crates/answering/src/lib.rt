@@ -3,6 +3,8 @@
 
 mod answer;
 mod carry;
+#[cfg(test)]
+mod tests;
 
 pub use answer::Answer;
 pub use carry::{carry_out, parent_place};

@@ -8,6 +8,7 @@ use Rattle.std.specs.Borrow.{Bor}
 use Rattle.std.proofs.lemmas.Bool.{ltb-true, ltb-false}
 use Rattle.ancestry.specs.Sets.{next}
 use Rattle.ancestry.specs.Commits.{Commit, nobody, at, parents_of, place_of}
+use Rattle.ancestry.specs.Ids.{num}
 use Rattle.ancestry.proofs.Reach.{past}
 use Rattle.ancestry.proofs.Library.{first}
 use Rattle.history.specs.Tables.{commit_of, listed}
@@ -19,11 +20,11 @@ unfolding at
 listed_at rows p d l = get_or-map commit_of rows p d nobody l
 
 -- the first row with an id is at the id's place
-pub position_place_of : (rows : List Row) (i : ℕ) → position (λ r. eqb r.id i) rows ≡ place_of (map commit_of rows) i
+pub position_place_of : (rows : List Row) (i : ℕ) → position (λ r. eqb (num r.id) i) rows ≡ place_of (map commit_of rows) i
 unfolding place_of
 position_place_of [] i = refl
 position_place_of (r ∷ rows) i =
-    first (position_or_len (λ s. eqb s.id i) rows) (length rows) (eqb r.id i) ∙ ap (λ (o : Option ℕ). cond (eqb r.id i) (Some 0) (next o)) (position_place_of rows i)
+    first (position_or_len (λ s. eqb (num s.id) i) rows) (length rows) (eqb (num r.id) i) ∙ ap (λ (o : Option ℕ). cond (eqb (num r.id) i) (Some 0) (next o)) (position_place_of rows i)
 
 -- what a lookup of the rows finds at a place
 module _ {N : ℕ} (t : Table N) (rows : List Row) (p : ℕ) (same : rows ≡ t.rows.items) where

@@ -1,6 +1,7 @@
 -- How what is told of a commit is printed.
 use Rattle.std.specs.Prelude.{ℕ, List, ◌++◌, Some, None, codes, decimal, Option}
 use Rattle.std.specs.Fmt.{signed_decimal}
+use Rattle.ancestry.specs.Ids.{num}
 use Rattle.ancestry.specs.Numbers.{hex}
 use Rattle.history.specs.declared.reader.Entry.{Entry}
 
@@ -11,4 +12,4 @@ generation_text None = codes "-"
 -- the id, the generation or `-`, the date and the number of parents, parted by blanks
 abbrev pub entry_text : Entry → List ℕ
 entry_text e =
-    hex e.id ++ (codes " " ++ (generation_text e.generation ++ (codes " " ++ (signed_decimal e.date ++ (codes " " ++ decimal e.parents)))))
+    hex (num e.id) ++ (codes " " ++ (generation_text e.generation ++ (codes " " ++ (signed_decimal e.date ++ (codes " " ++ decimal e.parents)))))

@@ -1,13 +1,14 @@
 -- What a table of rows means.
 use Rattle.std.specs.Prelude.{ℕ, ◌≤◌, List, map, length}
 use Rattle.ancestry.specs.Commits.{Commit, parents_of}
+use Rattle.ancestry.specs.Ids.{num}
 use Rattle.ancestry.specs.Lawful.{Laws}
 use Rattle.history.specs.declared.table.Row.{Row}
 use Rattle.history.specs.declared.table.Table.{Table}
 
 -- the commit of a row
 abbrev pub commit_of : Row → Commit
-commit_of r = record { id = r.id; generation = r.generation; date = r.date; parents = r.parents.items }
+commit_of r = record { id = num r.id; generation = r.generation; date = r.date; parents = r.parents.items }
 
 -- the commits of a table, by place
 abbrev pub listed : {N : ℕ} → Table N → List Commit

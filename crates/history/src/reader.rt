@@ -1,6 +1,7 @@
 ghost use Rattle.std.specs.Prelude.{◌≡◌, ℕ, List, length};
 ghost use Rattle.std.specs.List.{slice_get};
 ghost use Rattle.ancestry.specs.Commits.{Commit, place_of, parents_of};
+ghost use Rattle.ancestry.specs.Ids.{num};
 ghost use Rattle.ancestry.specs.Lawful.{Laws};
 ghost use Rattle.history.specs.Meaning.{Same, Reads};
 
@@ -53,7 +54,7 @@ pub trait Reader {
     fn find(&mut self, id: Id) -> Option<usize>
         requires { whole self.old }
         ensures same { Same whole commits room self.old self.new }
-        ensures answer { result ≡ place_of (commits self.old) id };
+        ensures answer { result ≡ place_of (commits self.old) (num id) };
 
     /// The commit at the place; beyond the list none.
     fn read(&mut self, place: usize) -> Option<Entry>

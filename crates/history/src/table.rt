@@ -1,6 +1,7 @@
 ghost use Rattle.std.specs.Prelude.{◌≡◌, ℕ, ◌+◌, ◌<◌, ◌≤◌, List, [], ◌∷◌, ◌++◌, length};
 ghost use Rattle.std.specs.List.{slice_get};
 ghost use Rattle.ancestry.specs.Commits.{place_of, parents_of};
+ghost use Rattle.ancestry.specs.Ids.{num};
 ghost use Rattle.history.specs.Meaning.{offered, Reads};
 ghost use Rattle.history.specs.Tables.{commit_of, listed};
 
@@ -63,7 +64,7 @@ impl<const N: usize> Table<N> {
     }
 
     pub(crate) fn find(&self, id: Id) -> Option<usize>
-        ensures { result ≡ place_of (listed self.now) id }
+        ensures { result ≡ place_of (listed self.now) (num id) }
     {
         self.rows.iter().position(|row| row.id == id)
     }

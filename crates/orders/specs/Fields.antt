@@ -1,6 +1,7 @@
 -- What is read of the fields of a line, or which field is not as expected.
 use Rattle.std.specs.Prelude.{ℕ, suc, Bool, true, false, cond, List, [], ◌∷◌, drop, Some, None, Ok, Err, codes, Option, Result}
 use Rattle.std.specs.Option.{option_map, ok_or}
+use Rattle.ancestry.specs.Ids.{num}
 use Rattle.ancestry.specs.Numbers.{from_hex}
 use Rattle.lines.specs.Bytes.{starts, field_of}
 use Rattle.orders.specs.Spelling.{decimal_of}
@@ -66,7 +67,7 @@ pub data Via : Type 0 where
 
 abbrev pub via : Parent → Via
 via (Place n) = place n
-via (Named i) = named i
+via (Named i) = named (num i)
 
 -- `@` and a place, or an id
 abbrev pub parent_of : List ℕ → Option Via

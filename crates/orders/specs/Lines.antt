@@ -1,6 +1,7 @@
 -- What each kind of line says.
 use Rattle.std.specs.Prelude.{◌≡◌, ℕ, List, map, drop, ℤ, Ok, Err, vec_items, Option, Result, Vec}
 use Rattle.std.specs.declared.alloc.Global.{Global}
+use Rattle.ancestry.specs.Ids.{num}
 use Rattle.ancestry.specs.Numbers.{from_hex}
 use Rattle.orders.specs.Spelling.{decimal_of, date_of, generation_of}
 use Rattle.orders.specs.Words.{word_of, option_of}
@@ -27,11 +28,11 @@ pub data Said : Type 0 where
   later : Said
 
 abbrev pub said : Order → Said
-said (order.Commit o) = commit o.id o.generation o.date (map via (vec_items o.parents))
-said (order.Name i) = name i
+said (order.Commit o) = commit (num o.id) o.generation o.date (map via (vec_items o.parents))
+said (order.Name i) = name (num i)
 said order.Count = count
 said order.Capacity = capacity
-said (order.Find i) = find i
+said (order.Find i) = find (num i)
 said (order.Read p) = read p
 said (order.Parent p n) = parent p n
 said order.Later = later

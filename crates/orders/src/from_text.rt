@@ -1,5 +1,6 @@
 ghost use Rattle.std.specs.Prelude.{◌≡◌, ℕ, List, Option};
 ghost use Rattle.std.specs.Option.{option_map};
+ghost use Rattle.ancestry.specs.Ids.{num};
 ghost use Rattle.ancestry.specs.Numbers.{from_hex};
 
 use ancestry::Id;
@@ -24,7 +25,7 @@ pub(crate) trait FromText: Sized {
 impl FromText for Id {
     ghost Meaning = { ℕ };
 
-    ghost means = { λ i. i };
+    ghost means = { num };
 
     ghost spells = { from_hex };
 

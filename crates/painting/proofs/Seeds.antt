@@ -2,6 +2,8 @@
 use Rattle.std.proofs.Common.{◌≡◌, ℕ, zero, suc, ◌+◌, ◌<◌, ◌≤◌, Bool, true, false, ◌||◌, List, [], ◌∷◌, ◌++◌, length, get_or, take, replicate, Some, None, Option, sym, refl, ap, ◌∙◌, subst, ⊎_elim, add-one, arith}
 use Rattle.std.proofs.lemmas.Bool.{false≢true, true≢false, or_cases, eqb-true}
 use Rattle.ancestry.specs.Sets.{any, member}
+use Rattle.ancestry.specs.Ids.{num, nums}
+use Rattle.ancestry.specs.declared.id.Id.{Id}
 use Rattle.ancestry.specs.Commits.{Commit, place_of}
 use Rattle.ancestry.specs.Lawful.{Lawful}
 use Rattle.ancestry.specs.Reaching.{Reaches, itself, through, reaches, reached_from, id_reaches}
@@ -106,10 +108,10 @@ module _ {A : Type 0} (f : A → Option ℕ) where
       later None m = m
       later (Some r) m = member_there p r (places_by f xs) m
 
-pub places_ids : (H : List Commit) (is : List ℕ) → places_by (λ i. place_of H i) is ≡ places_of H is
+pub places_ids : (H : List Commit) (is : List Id) → places_by (λ i. place_of H (num i)) is ≡ places_of H (nums is)
 unfolding places_by
 places_ids H [] = refl
-places_ids H (i ∷ is) = ap (with_found (place_of H i)) (places_ids H is)
+places_ids H (i ∷ is) = ap (with_found (place_of H (num i))) (places_ids H is)
 
 pub places_places : (ps : List ℕ) → places_by Some ps ≡ ps
 unfolding places_by
@@ -126,11 +128,11 @@ places_inside H (i ∷ is) s m = go (place_of H i) refl (places_inside H is s) m
     go (Some p) e h m = ⊎_elim (λ k. subst (λ (y : ℕ). y < length H) (sym (eqb-true s p k)) (place_says H i p e).0) h (member-cons s p (places_of H is) m)
 
 -- ids told, over the same list of commits under another name
-pub ids_inside : (H : List Commit) (is : List ℕ) (s : ℕ) → member s (places_by (λ i. place_of H i) is) ≡ true → s < length H
-ids_inside H is s m = places_inside H is s (subst (λ (l : List ℕ). member s l ≡ true) (places_ids H is) m)
+pub ids_inside : (H : List Commit) (is : List Id) (s : ℕ) → member s (places_by (λ i. place_of H (num i)) is) ≡ true → s < length H
+ids_inside H is s m = places_inside H (nums is) s (subst (λ (l : List ℕ). member s l ≡ true) (places_ids H is) m)
 
-pub ids_told : (H G : List Commit) (t : Told) (is : List ℕ) (ms l : List Mark) → G ≡ H → l ≡ hand_all t (places_by (λ i. place_of G i) is) ms → l ≡ hand_all t (places_of H is) ms
-ids_told H G t is ms l e h = h ∙ ap (λ (ps : List ℕ). hand_all t ps ms) (ap (λ (X : List Commit). places_by (λ i. place_of X i) is) e ∙ places_ids H is)
+pub ids_told : (H G : List Commit) (t : Told) (is : List Id) (ms l : List Mark) → G ≡ H → l ≡ hand_all t (places_by (λ i. place_of G (num i)) is) ms → l ≡ hand_all t (places_of H (nums is)) ms
+ids_told H G t is ms l e h = h ∙ ap (λ (ps : List ℕ). hand_all t ps ms) (ap (λ (X : List Commit). places_by (λ i. place_of X (num i)) is) e ∙ places_ids H is)
 
 -- places told
 pub places_inside_too : (H : List Commit) (ps : List ℕ) → ((s : ℕ) → member s ps ≡ true → s < length H) → (s : ℕ) → member s (places_by Some ps) ≡ true → s < length H

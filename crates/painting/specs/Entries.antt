@@ -1,6 +1,7 @@
 -- The queue's entry for a place.
 use Rattle.std.specs.Prelude.{◌≡◌, ℕ, cond, List, sum_by, ◌==◌}
 use Rattle.ancestry.specs.Commits.{Commit, at}
+use Rattle.ancestry.specs.Ids.{num}
 use Rattle.ancestry.specs.Keys.{rank}
 use Rattle.queue.specs.declared.kinds.Keyed.{Keyed}
 
@@ -9,7 +10,7 @@ pub record Keys (H : List Commit) (p : ℕ) (k : Keyed) : Type 0 where
   pub place : k.place ≡ p
   pub generation : k.generation ≡ rank (at H p).generation
   pub date : k.date ≡ (at H p).date
-  pub id : k.id ≡ (at H p).id
+  pub id : num k.id ≡ (at H p).id
 
 -- how often a place stands in a list
 unfoldable pub times : ℕ → List ℕ → ℕ

@@ -2,6 +2,7 @@
 ghost use Rattle.std.specs.Prelude.{◌≡◌, ℕ, ◌<◌, ◌≤◌, true, length};
 ghost use Rattle.ancestry.specs.Sets.{member};
 ghost use Rattle.ancestry.specs.Bases.{shared};
+ghost use Rattle.ancestry.specs.Ids.{num, nums};
 ghost use Rattle.history.specs.Unchanged.{Unchanged};
 ghost use Rattle.painting.specs.Bits.{flags};
 ghost use Rattle.painting.specs.Listings.{listed, room};
@@ -49,7 +50,7 @@ pub fn paint_down_to_common<H: Reader>(
     ensures room { room results.new ≡ room results.old }
     ensures few { length (listed results.new) ≤ length (H.commits history.old) }
     ensures inside { AllBelow (length (H.commits history.old)) (listed results.new) }
-    ensures painted { Painted (H.commits history.old) (shared (H.commits history.old) first others.now) (flags marks.new) (listed results.new) }
+    ensures painted { Painted (H.commits history.old) (shared (H.commits history.old) (num first) (nums others.now)) (flags marks.new) (listed results.new) }
 {
     let mut queue = Queue::new(slots);
     let mut painter = Painter::new(marks, &mut queue);
@@ -80,7 +81,7 @@ pub fn paint_from_places<H: Reader>(
     ensures room { room results.new ≡ room results.old }
     ensures few { length (listed results.new) ≤ length (H.commits history.old) }
     ensures inside { AllBelow (length (H.commits history.old)) (listed results.new) }
-    ensures painted { Painted (H.commits history.old) (meeting (H.commits history.old) id (listed results.old)) (flags marks.new) (listed results.new) }
+    ensures painted { Painted (H.commits history.old) (meeting (H.commits history.old) (num id) (listed results.old)) (flags marks.new) (listed results.new) }
 {
     let mut queue = Queue::new(slots);
     let mut painter = Painter::new(marks, &mut queue);

@@ -1,6 +1,7 @@
 // Where painting starts.
 ghost use Rattle.std.specs.Prelude.{◌≡◌, ℕ, List, Some, Option};
 ghost use Rattle.ancestry.specs.Commits.{Commit, place_of};
+ghost use Rattle.ancestry.specs.Ids.{num};
 ghost use Rattle.history.specs.Unchanged.{Unchanged};
 
 use ancestry::Id;
@@ -19,7 +20,7 @@ pub(crate) trait Seed: Copy {
 }
 
 impl Seed for Id {
-    ghost place_in = { λ H i. place_of H i };
+    ghost place_in = { λ H i. place_of H (num i) };
 
     fn place<H: Reader>(self, history: &mut H) -> Option<usize> {
         history.find(self)

@@ -5,6 +5,8 @@ mod entry;
 mod heap;
 mod kinds;
 mod lent;
+#[cfg(test)]
+mod tests;
 
 pub use entry::Entry;
 pub use kinds::{Dated, Keyed};

@@ -1,11 +1,13 @@
 -- One more commit at a time: the bases of those so far reach all that they share.
 use Rattle.std.proofs.Common.{◌≡◌, ℕ, ◌+◌, ◌<◌, Bool, true, false, ◌&&◌, ◌||◌, eqb, List, [], ◌∷◌, ◌++◌, length, get_or, take, Some, None, sym, refl, ap, ◌∙◌, subst, ⊎_elim, arith}
-use Rattle.std.proofs.lemmas.List.{take_more}
+use Rattle.std.proofs.lemmas.List.{take_more, map-append}
 use Rattle.std.proofs.lemmas.Bool.{and_parts, and_from, eqb-true}
 use Rattle.std.proofs.lemmas.Bool.Decides.{nat_tests}
 use Rattle.ancestry.specs.Sets.{any, every, member}
 use Rattle.ancestry.specs.Bases.{shared_by_all}
 use Rattle.ancestry.specs.Commits.{Commit, place_of}
+use Rattle.ancestry.specs.Ids.{num, nums}
+use Rattle.ancestry.specs.declared.id.Id.{Id}
 use Rattle.ancestry.specs.Lawful.{Lawful}
 use Rattle.ancestry.specs.Reaching.{Reaches, itself, through, reaches, reached_from, id_reaches}
 use Rattle.ancestry.proofs.Best.{above}
@@ -101,8 +103,8 @@ round_more H L f z zs ps qs s b =
       bests = λ _. t;
     }
 
-pub folded_more : (H G : List Commit) → Lawful H → (f : ℕ) (is : List ℕ) (n : ℕ) (d : ℕ) (ps qs : List ℕ) → n < length is → G ≡ H → Folded H f (take n is) ps → Bests G (meeting G (get_or is n d) ps) qs → Folded H f (take (n + 1) is) qs
+pub folded_more : (H G : List Commit) → Lawful H → (f : ℕ) (is : List Id) (n : ℕ) (d : Id) (ps qs : List ℕ) → n < length is → G ≡ H → Folded H f (nums (take n is)) ps → Bests G (meeting G (num (get_or is n d)) ps) qs → Folded H f (nums (take (n + 1) is)) qs
 folded_more H G L f is n d ps qs l e h b =
-    let b' : Bests H (meeting H (get_or is n d) ps) qs = subst (λ (X : List Commit). Bests X (meeting X (get_or is n d) ps) qs) e b in
-    let z : take (n + 1) is ≡ take n is ++ get_or is n d ∷ [] = take_more is n d l in
-    subst (λ (zs : List ℕ). Folded H f zs qs) (sym z) (round_more H L f (get_or is n d) (take n is) ps qs h.spans b')
+    let b' : Bests H (meeting H (num (get_or is n d)) ps) qs = subst (λ (X : List Commit). Bests X (meeting X (num (get_or is n d)) ps) qs) e b in
+    let z : nums (take (n + 1) is) ≡ nums (take n is) ++ num (get_or is n d) ∷ [] = ap nums (take_more is n d l) ∙ map-append num (take n is) (get_or is n d ∷ []) in
+    subst (λ (zs : List ℕ). Folded H f zs qs) (sym z) (round_more H L f (num (get_or is n d)) (nums (take n is)) ps qs h.spans b')

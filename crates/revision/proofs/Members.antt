@@ -6,6 +6,8 @@ use Rattle.ancestry.specs.Sets.{every, member}
 use Rattle.ancestry.specs.Asking.{Space, short, denied}
 use Rattle.ancestry.specs.Intake.{unless}
 use Rattle.ancestry.specs.Bases.{best, ids, shared, bases, empty, head, shared_by_all, octopus}
+use Rattle.ancestry.specs.Ids.{num, nums}
+use Rattle.ancestry.specs.declared.id.Id.{Id}
 use Rattle.ancestry.specs.Commits.{Commit}
 use Rattle.ancestry.specs.declared.refusal.Refusal.{Refusal}
 use Rattle.ancestry.specs.declared.refusal.Refusal.TheVariants.{TooManyOthers, WorkspaceShort}
@@ -35,7 +37,7 @@ pub bases_walked : (H : List Commit) (f : ℕ) (is : List ℕ) → (length is �
 unfolding bases
 bases_walked H f is n m = rw (or_from (empty is) (member f is) (empty_is is ∙ (let z : length is ≡ 0 → ⊥ = n in grind (arith, nat_tests))) m) refl
 
-pub plain_slots : (list : List ℕ) (f : ℕ) (before : List ℕ) → list ≡ f ∷ [] → 0 < length before → (take 1 (set before 0 f) ≡ list) × (drop 1 (set before 0 f) ≡ drop 1 before)
+pub plain_slots : (list : List ℕ) (f : Id) (before : List Id) → list ≡ num f ∷ [] → 0 < length before → (nums (take 1 (set before 0 f)) ≡ list) × (drop 1 (set before 0 f) ≡ drop 1 before)
 plain_slots list f [] e l = absurd (omega arith)
 plain_slots list f (x ∷ xs) e l = (sym e, refl)
 

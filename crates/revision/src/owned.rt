@@ -1,7 +1,8 @@
 ghost use Rattle.std.specs.Prelude.{◌≡◌, length, IfOk};
-ghost use Rattle.ancestry.specs.Asking.{space_of, denied, Listed, first_slot};
+ghost use Rattle.ancestry.specs.Asking.{space_of, denied, Listed, numbered, first_slot};
 ghost use Rattle.ancestry.specs.Intake.{unless};
 ghost use Rattle.ancestry.specs.Bases.{bases, octopus};
+ghost use Rattle.ancestry.specs.Ids.{num, nums};
 ghost use Rattle.history.specs.Unchanged.{Unchanged};
 ghost use Rattle.revision.specs.Owned.{sizes_of, needed, slots_of};
 
@@ -64,8 +65,8 @@ impl OwnedWorkspace {
         requires { H.whole history.old }
         ensures same { Unchanged H.Reader history.old history.new }
         ensures sizes { sizes_of self.new ≡ sizes_of self.old }
-        ensures answer { result ≡ unless (denied (sizes_of self.old) (length (H.commits history.old)) (length others.now)) (length (bases (H.commits history.old) first others.now)) }
-        ensures slots { Listed (bases (H.commits history.old) first others.now) (slots_of self.old) result (slots_of self.new) }
+        ensures answer { result ≡ unless (denied (sizes_of self.old) (length (H.commits history.old)) (length others.now)) (length (bases (H.commits history.old) (num first) (nums others.now))) }
+        ensures slots { Listed (bases (H.commits history.old) (num first) (nums others.now)) (slots_of self.old) result (slots_of self.new) }
     {
         ask_bases(
             history,
@@ -88,7 +89,7 @@ impl OwnedWorkspace {
         requires { H.whole history.old }
         ensures same { Unchanged H.Reader history.old history.new }
         ensures sizes { sizes_of self.new ≡ sizes_of self.old }
-        ensures answer { result ≡ unless (denied (sizes_of self.old) (length (H.commits history.old)) (length others.now)) (octopus (H.commits history.old) first others.now) }
+        ensures answer { numbered result ≡ unless (denied (sizes_of self.old) (length (H.commits history.old)) (length others.now)) (octopus (H.commits history.old) (num first) (nums others.now)) }
         ensures slots { slots_of self.new ≡ first_slot (slots_of self.old) result }
     {
         ask_common(
@@ -124,8 +125,8 @@ fn ask_bases<H: Reader>(
 ) -> Result<usize, Refusal>
     requires { H.whole history.old }
     ensures same { Unchanged H.Reader history.old history.new }
-    ensures answer { result ≡ unless (denied (space_of (length marks.old) (length queue.old) (length stack.old) (length answers.old)) (length (H.commits history.old)) (length others.now)) (length (bases (H.commits history.old) first others.now)) }
-    ensures slots { Listed (bases (H.commits history.old) first others.now) answers.old result answers.new }
+    ensures answer { result ≡ unless (denied (space_of (length marks.old) (length queue.old) (length stack.old) (length answers.old)) (length (H.commits history.old)) (length others.now)) (length (bases (H.commits history.old) (num first) (nums others.now))) }
+    ensures slots { Listed (bases (H.commits history.old) (num first) (nums others.now)) answers.old result answers.new }
 {
     let space = Workspace {
         marks,
@@ -147,7 +148,7 @@ fn ask_common<H: Reader>(
 ) -> Result<Option<Id>, Refusal>
     requires { H.whole history.old }
     ensures same { Unchanged H.Reader history.old history.new }
-    ensures answer { result ≡ unless (denied (space_of (length marks.old) (length queue.old) (length stack.old) (length answers.old)) (length (H.commits history.old)) (length others.now)) (octopus (H.commits history.old) first others.now) }
+    ensures answer { numbered result ≡ unless (denied (space_of (length marks.old) (length queue.old) (length stack.old) (length answers.old)) (length (H.commits history.old)) (length others.now)) (octopus (H.commits history.old) (num first) (nums others.now)) }
     ensures slots { answers.new ≡ first_slot answers.old result }
 {
     let space = Workspace {

@@ -1,5 +1,5 @@
 -- Several histories, each as far as it has gone.
-use Rattle.std.proofs.Common.{◌≡◌, ℕ, ◌<◌, Bool, true, false, cond, eqb, ⊎_elim, List, [], ◌∷◌, ◌++◌, length, map, take, Some, get_or, set, sym, refl, ap, ◌∙◌, subst, arith}
+use Rattle.std.proofs.Common.{◌≡◌, ℕ, ◌<◌, ◌≤◌, Bool, true, false, cond, eqb, ⊎_elim, List, [], ◌∷◌, ◌++◌, length, map, take, Some, get_or, set, sym, refl, ap, ◌∙◌, subst, arith}
 use Rattle.std.specs.List.{slice_get}
 use Rattle.std.proofs.lemmas.Bool.{cases_eq, eq-eqb, eqb-true}
 use Rattle.std.proofs.lemmas.List.{append-nil, length-map, length-take-le, length-set, get_or-set_same, get_or-set_other}
@@ -9,6 +9,7 @@ use Rattle.ancestry.proofs.Sets.{not_so}
 use Rattle.history.specs.declared.reader.Reader.{Ghosts}
 use Rattle.runs.specs.Several.{events_at, AllWhole, EachRan}
 use Rattle.runs.specs.declared.call.Event.{Event}
+use Rattle.runs.specs.declared.several.Addressed.{Addressed}
 use Rattle.runs.specs.declared.several.Noted.{Noted}
 use Rattle.runs.proofs.Kept.{run_law}
 use Rattle.runs.proofs.Progress.{Went, went_none}
@@ -37,6 +38,11 @@ events_other k n d = rw (not_so (eqb n.to k) (λ e. d (eqb-true n.to k e))) refl
 -- as many events as calls were made
 pub made_so_far : {A B : Type 0} (f : A → B) (es : List A) (calls : List B) (i : ℕ) → map f es ≡ take i calls → i < length calls → length es ≡ i
 made_so_far f es calls i m l = sym (length-map es f) ∙ ap length m ∙ length-take-le i calls (omega (arith, l))
+
+-- a call addressed to none of n histories
+pub next_call : (calls : List Addressed) (i k m n : ℕ) (d : Addressed) → k ≡ i → m ≡ n → i < length calls → m ≤ (get_or calls i d).to →
+    (a : Addressed) × (slice_get calls k ≡ Some a) × (n ≤ a.to)
+next_call calls i k m n d e f l h = (get_or calls i d, rw e (slice_get-get_or calls i d l), subst (λ (j : ℕ). j ≤ (get_or calls i d).to) f h)
 
 pub record EachWent {S : Type 0} (g : Ghosts S) (s : Space) (before : List S) (ns : List Noted) (after : List S) : Type 0 where
   pub each : (k : ℕ) (h h' : S) → slice_get before k ≡ Some h → slice_get after k ≡ Some h' → Went g h s (events_at k ns) h'

@@ -1,7 +1,9 @@
 -- The calls and events of the code, as a run has them.
 use Rattle.std.specs.Prelude.{ℕ, List, map, Some, None, Ok, Err, Option, Result, Vec, vec_items}
 use Rattle.std.specs.declared.alloc.Global.{Global}
-use Rattle.ancestry.specs.Asking.{Space}
+use Rattle.ancestry.specs.Asking.{Space, numbered}
+use Rattle.ancestry.specs.Ids.{num, nums}
+use Rattle.ancestry.specs.declared.id.Id.{Id}
 use Rattle.ancestry.specs.declared.refusal.Refusal.{Refusal}
 use Rattle.history.specs.Meaning.{offered}
 use Rattle.history.specs.declared.reader.Entry.{Entry}
@@ -16,10 +18,10 @@ use Rattle.runs.specs.declared.call.Event.TheVariants.{Intake, Count, Capacity, 
 
 abbrev pub told_of : Option Entry → Option Told
 told_of None = None
-told_of (Some e) = Some (record { id = e.id; generation = e.generation; date = e.date; parents = e.parents })
+told_of (Some e) = Some (record { id = num e.id; generation = e.generation; date = e.date; parents = e.parents })
 
-abbrev pub bases_of : Result (Vec ℕ Global) Refusal → Result (List ℕ) Refusal
-bases_of (Ok v) = Ok (vec_items v)
+abbrev pub bases_of : Result (Vec Id Global) Refusal → Result (List ℕ) Refusal
+bases_of (Ok v) = Ok (nums (vec_items v))
 bases_of (Err f) = Err f
 
 -- what happened, where so much is lent to each question
@@ -27,11 +29,11 @@ abbrev pub event_of : Space → Event → run.Event
 event_of s (Intake c r) = run.intake (offered c) r
 event_of s (Count n) = run.count n
 event_of s (Capacity n) = run.capacity n
-event_of s (Find i r) = run.find i r
+event_of s (Find i r) = run.find (num i) r
 event_of s (Read p r) = run.read p (told_of r)
 event_of s (Parent p n r) = run.parent p n r
-event_of s (MergeBase f is r) = run.merge_base f is.now s (bases_of r)
-event_of s (Octopus f is r) = run.octopus_base f is.now s r
+event_of s (MergeBase f is r) = run.merge_base (num f) (nums is.now) s (bases_of r)
+event_of s (Octopus f is r) = run.octopus_base (num f) (nums is.now) s (numbered r)
 
 -- the call of an event
 abbrev pub call_of : Event → Call

@@ -1,6 +1,7 @@
 ghost use Rattle.std.specs.Prelude.{◌≡◌, ◌++◌, IfOk, MatchResult, length};
 ghost use Rattle.ancestry.specs.Bases.{bases};
 ghost use Rattle.ancestry.specs.Asking.{denied};
+ghost use Rattle.ancestry.specs.Ids.{num, nums};
 ghost use Rattle.ancestry.specs.Intake.{unless};
 ghost use Rattle.history.specs.Unchanged.{Unchanged};
 ghost use Rattle.revision.specs.Owned.{sizes_of};
@@ -71,7 +72,7 @@ fn ask<H: History>(
     requires { H.Reader.whole history.old }
     ensures same { Unchanged H.Reader history.old history.new }
     ensures sizes { sizes_of space.new ≡ sizes_of space.old }
-    ensures answer { IfOk result (λ r. bases_of r ≡ unless (denied (sizes_of space.old) (length (H.Reader.commits history.old)) (length others.now)) (bases (H.Reader.commits history.old) first others.now)) }
+    ensures answer { IfOk result (λ r. bases_of r ≡ unless (denied (sizes_of space.old) (length (H.Reader.commits history.old)) (length others.now)) (bases (H.Reader.commits history.old) (num first) (nums others.now))) }
 {
     Ok(match space.merge_base(history, first, others) {
         Ok(count) => Ok(Vec::from_slice(heap, &space.answers()[0..count])?),

@@ -2,8 +2,10 @@ ghost use Rattle.std.specs.Prelude.{◌≡◌, length};
 ghost use Rattle.ancestry.specs.Asking.{space_of, denied, Listed, Stays};
 ghost use Rattle.ancestry.specs.Intake.{unless};
 ghost use Rattle.ancestry.specs.Bases.{bases};
+ghost use Rattle.ancestry.specs.Ids.{num, nums};
 ghost use Rattle.history.specs.Unchanged.{Unchanged};
 
+use crate::merge_bases::ids::contains;
 use crate::merge_bases::search::Search;
 use crate::workspace::{Sizes, Workspace};
 use ancestry::{Id, Refusal};
@@ -32,8 +34,8 @@ pub fn merge_base<H: Reader>(
 ) -> Result<usize, Refusal>
     requires { H.whole history.old }
     ensures same { Unchanged H.Reader history.old history.new }
-    ensures answer { result ≡ unless (denied (space_of (length space.entry.marks.now) (length space.entry.queue.now) (length space.entry.stack.now) (length answers.old)) (length (H.commits history.old)) (length others.now)) (length (bases (H.commits history.old) first others.now)) }
-    ensures slots { Listed (bases (H.commits history.old) first others.now) answers.old result answers.new }
+    ensures answer { result ≡ unless (denied (space_of (length space.entry.marks.now) (length space.entry.queue.now) (length space.entry.stack.now) (length answers.old)) (length (H.commits history.old)) (length others.now)) (length (bases (H.commits history.old) (num first) (nums others.now))) }
+    ensures slots { Listed (bases (H.commits history.old) (num first) (nums others.now)) answers.old result answers.new }
     ensures marks { Stays result space.entry.marks.now space.exit.0.now }
     ensures queue { Stays result space.entry.queue.now space.exit.1.0.now }
     ensures stack { Stays result space.entry.stack.now space.exit.1.1.0.now }
@@ -47,7 +49,7 @@ pub fn merge_base<H: Reader>(
     let count = history.count();
     let sizes = Sizes::of(marks, queue, stack, answers);
     sizes.suffice(count, others.len())?;
-    if others.is_empty() || others.contains(&first) {
+    if others.is_empty() || contains(others, first) {
         answers[0] = first;
         return Ok(1);
     }

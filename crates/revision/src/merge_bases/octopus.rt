@@ -1,7 +1,8 @@
 ghost use Rattle.std.specs.Prelude.{◌≡◌, length};
-ghost use Rattle.ancestry.specs.Asking.{space_of, denied, first_slot, Stays};
+ghost use Rattle.ancestry.specs.Asking.{space_of, denied, numbered, first_slot, Stays};
 ghost use Rattle.ancestry.specs.Intake.{unless};
 ghost use Rattle.ancestry.specs.Bases.{octopus};
+ghost use Rattle.ancestry.specs.Ids.{num, nums};
 ghost use Rattle.history.specs.Unchanged.{Unchanged};
 
 use crate::merge_bases::ids::all_same;
@@ -28,7 +29,7 @@ pub fn octopus<H: Reader>(
 ) -> Result<Option<Id>, Refusal>
     requires { H.whole history.old }
     ensures same { Unchanged H.Reader history.old history.new }
-    ensures answer { result ≡ unless (denied (space_of (length space.entry.marks.now) (length space.entry.queue.now) (length space.entry.stack.now) (length answers.old)) (length (H.commits history.old)) (length others.now)) (octopus (H.commits history.old) first others.now) }
+    ensures answer { numbered result ≡ unless (denied (space_of (length space.entry.marks.now) (length space.entry.queue.now) (length space.entry.stack.now) (length answers.old)) (length (H.commits history.old)) (length others.now)) (octopus (H.commits history.old) (num first) (nums others.now)) }
     ensures slots { answers.new ≡ first_slot answers.old result }
     ensures marks { Stays result space.entry.marks.now space.exit.0.now }
     ensures queue { Stays result space.entry.queue.now space.exit.1.0.now }

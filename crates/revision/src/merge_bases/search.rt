@@ -2,6 +2,7 @@
 ghost use Rattle.std.specs.Prelude.{◌≡◌, ℕ, ◌*◌, ◌<◌, ◌≤◌, true, [], length, take, drop};
 ghost use Rattle.ancestry.specs.Sets.{member};
 ghost use Rattle.ancestry.specs.Bases.{best, ids, head, shared, shared_by_all};
+ghost use Rattle.ancestry.specs.Ids.{num, nums, num_if};
 ghost use Rattle.history.specs.Unchanged.{Unchanged};
 ghost use Rattle.painting.specs.Listings.{listed};
 ghost use Rattle.painting.specs.Seeded.{meeting};
@@ -62,7 +63,7 @@ impl<'a> Search<'a> {
         requires answers { length (H.commits history.old) ≤ length answers.old }
         ensures same { Unchanged H.Reader history.old history.new }
         ensures few { result ≤ length (H.commits history.old) }
-        ensures written { take result answers.new ≡ ids (H.commits history.old) (best (H.commits history.old) (shared (H.commits history.old) first others.now)) }
+        ensures written { nums (take result answers.new) ≡ ids (H.commits history.old) (best (H.commits history.old) (shared (H.commits history.old) (num first) (nums others.now))) }
         ensures beyond { drop result answers.new ≡ drop result answers.old }
     {
         paint_down_to_common(
@@ -89,7 +90,7 @@ impl<'a> Search<'a> {
         requires fits { Fits (length (H.commits history.old)) self.old }
         requires none { listed self.old.results ≡ [] }
         ensures same { Unchanged H.Reader history.old history.new }
-        ensures answer { result ≡ head (ids (H.commits history.old) (best (H.commits history.old) (shared_by_all (H.commits history.old) first others.now))) }
+        ensures answer { num_if result ≡ head (ids (H.commits history.old) (best (H.commits history.old) (shared_by_all (H.commits history.old) (num first) (nums others.now)))) }
     {
         self.start(history, first);
         for other in others {
@@ -105,7 +106,7 @@ impl<'a> Search<'a> {
         requires none { listed self.old.results ≡ [] }
         ensures same { Unchanged H.Reader history.old history.new }
         ensures fits { Fits (length (H.commits history.old)) self.new }
-        ensures spans { Spans (H.commits history.old) first [] (listed self.new.results) }
+        ensures spans { Spans (H.commits history.old) (num first) [] (listed self.new.results) }
     {
         let Some(place) = history.find(first) else {
             return;
@@ -120,7 +121,7 @@ impl<'a> Search<'a> {
         requires inside { AllBelow (length (H.commits history.old)) (listed self.old.results) }
         ensures same { Unchanged H.Reader history.old history.new }
         ensures fits { Fits (length (H.commits history.old)) self.new }
-        ensures bests { Bests (H.commits history.old) (meeting (H.commits history.old) id (listed self.old.results)) (listed self.new.results) }
+        ensures bests { Bests (H.commits history.old) (meeting (H.commits history.old) (num id) (listed self.old.results)) (listed self.new.results) }
     {
         let results = &mut self.results;
         paint_from_places(history, id, self.marks, self.queue, results);

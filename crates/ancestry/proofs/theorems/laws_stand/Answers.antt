@@ -1,5 +1,6 @@
 use Rattle.ancestry.proofs.Bytes.{id_law}
 use Rattle.ancestry.proofs.Letters.{hex_law}
+use Rattle.ancestry.proofs.Compared.{order_law}
 use Rattle.ancestry.proofs.Reach.{reaching_law}
 use Rattle.ancestry.proofs.Join.{place_law, swap_law, join_law}
 use Rattle.ancestry.proofs.Unique.{best_law}
@@ -11,6 +12,7 @@ pub returns : goal.returns
 returns c = record {
   ids = id_law;
   letters = hex_law;
+  compared = order_law;
   places = place_law;
   reaching = reaching_law;
   best = best_law;

@@ -2,6 +2,7 @@ use Rattle.std.proofs.Common.{◌≡◌, ℕ, true, false, leb, List, length, is
 use Rattle.std.proofs.lemmas.Int.{to_z-of_z}
 use Rattle.std.proofs.lemmas.Bool.{lt-ltb, le-ltb, eq-eqb, ne_eqb}
 use Rattle.ancestry.specs.Commits.{Commit, place_of}
+use Rattle.ancestry.specs.Ids.{num}
 use Rattle.ancestry.specs.Intake.{in_range, exceeds, unless}
 use Rattle.ancestry.specs.declared.refusal.Refusal.{Refusal}
 use Rattle.ancestry.specs.Sets.{any}
@@ -19,7 +20,7 @@ returns-then-not-in_range g c =
     let e0 : in_range c.args.commit.now.date ≡ false = simp to_z-of_z at (sym c.in_range.ensures ∙ c.if-not-in_range.true) in
     record {
       same = same_self h c.requires;
-      answer = ap (λ (o : Option Refusal). unless o tt) (by_tests (g.H.Reader.room h) H c.args.commit.now.id c.args.commit.now.generation c.args.commit.now.date ps true _ _ _ _ _ _
+      answer = ap (λ (o : Option Refusal). unless o tt) (by_tests (g.H.Reader.room h) H (num c.args.commit.now.id) c.args.commit.now.generation c.args.commit.now.date ps true _ _ _ _ _ _
           e0
           refl
           refl
@@ -38,7 +39,7 @@ returns-then-too_high g c =
     let e0 : in_range c.args.commit.now.date ≡ true = simp to_z-of_z at (sym c.in_range.ensures ∙ c.if-not-in_range.false) in
     record {
       same = same_self h c.requires;
-      answer = ap (λ (o : Option Refusal). unless o tt) (by_tests (g.H.Reader.room h) H c.args.commit.now.id c.args.commit.now.generation c.args.commit.now.date ps false true _ _ _ _ _
+      answer = ap (λ (o : Option Refusal). unless o tt) (by_tests (g.H.Reader.room h) H (num c.args.commit.now.id) c.args.commit.now.generation c.args.commit.now.date ps false true _ _ _ _ _
           e0
           (sym c.too_high.ensures ∙ c.if-too_high.true)
           refl
@@ -57,7 +58,7 @@ returns-then-commit-gt-MAX_PARENTS g c =
     let e0 : in_range c.args.commit.now.date ≡ true = simp to_z-of_z at (sym c.in_range.ensures ∙ c.if-not-in_range.false) in
     record {
       same = same_self h c.requires;
-      answer = ap (λ (o : Option Refusal). unless o tt) (by_tests (g.H.Reader.room h) H c.args.commit.now.id c.args.commit.now.generation c.args.commit.now.date ps false false true _ _ _ _
+      answer = ap (λ (o : Option Refusal). unless o tt) (by_tests (g.H.Reader.room h) H (num c.args.commit.now.id) c.args.commit.now.generation c.args.commit.now.date ps false false true _ _ _ _
           e0
           (sym c.too_high.ensures ∙ c.if-too_high.false)
           (lt-ltb _ _ c.if-commit-gt-MAX_PARENTS.true)
@@ -76,11 +77,11 @@ returns-then-is_some g c =
     let e0 : in_range c.args.commit.now.date ≡ true = simp to_z-of_z at (sym c.in_range.ensures ∙ c.if-not-in_range.false) in
     record {
       same = c.find.ensures.same;
-      answer = ap (λ (o : Option Refusal). unless o tt) (by_tests (g.H.Reader.room h) H c.args.commit.now.id c.args.commit.now.generation c.args.commit.now.date ps false false false true _ _ _
+      answer = ap (λ (o : Option Refusal). unless o tt) (by_tests (g.H.Reader.room h) H (num c.args.commit.now.id) c.args.commit.now.generation c.args.commit.now.date ps false false false true _ _ _
           e0
           (sym c.too_high.ensures ∙ c.if-too_high.false)
           (le-ltb _ _ c.if-commit-gt-MAX_PARENTS.false)
-          (sym (c.is_some.ensures ∙ ap is_some c.find.ensures.answer ∙ some_present (place_of H c.args.commit.now.id)) ∙ c.if-is_some.true)
+          (sym (c.is_some.ensures ∙ ap is_some c.find.ensures.answer ∙ some_present (place_of H (num c.args.commit.now.id))) ∙ c.if-is_some.true)
           refl
           refl
           refl);
@@ -95,11 +96,11 @@ returns-then-no_such g c =
     let e0 : in_range c.args.commit.now.date ≡ true = simp to_z-of_z at (sym c.in_range.ensures ∙ c.if-not-in_range.false) in
     record {
       same = same_then c.find.ensures.same c.no_such.ensures.same;
-      answer = ap (λ (o : Option Refusal). unless o tt) (by_tests (g.H.Reader.room h) H c.args.commit.now.id c.args.commit.now.generation c.args.commit.now.date ps false false false false true _ _
+      answer = ap (λ (o : Option Refusal). unless o tt) (by_tests (g.H.Reader.room h) H (num c.args.commit.now.id) c.args.commit.now.generation c.args.commit.now.date ps false false false false true _ _
           e0
           (sym c.too_high.ensures ∙ c.if-too_high.false)
           (le-ltb _ _ c.if-commit-gt-MAX_PARENTS.false)
-          (sym (c.is_some.ensures ∙ ap is_some c.find.ensures.answer ∙ some_present (place_of H c.args.commit.now.id)) ∙ c.if-is_some.false)
+          (sym (c.is_some.ensures ∙ ap is_some c.find.ensures.answer ∙ some_present (place_of H (num c.args.commit.now.id))) ∙ c.if-is_some.false)
           (sym (c.no_such.ensures.answer ∙ list_any-any _ _ ∙ ap (λ (x : List Commit). any (λ p. leb (length x) p) ps) c.find.ensures.same.list) ∙ c.if-no_such.true)
           refl
           refl);
@@ -115,11 +116,11 @@ returns-then-rises g c =
     let s5 = same_then c.find.ensures.same c.no_such.ensures.same in
     record {
       same = same_then s5 c.rises.ensures.same;
-      answer = ap (λ (o : Option Refusal). unless o tt) (by_tests (g.H.Reader.room h) H c.args.commit.now.id c.args.commit.now.generation c.args.commit.now.date ps false false false false false true _
+      answer = ap (λ (o : Option Refusal). unless o tt) (by_tests (g.H.Reader.room h) H (num c.args.commit.now.id) c.args.commit.now.generation c.args.commit.now.date ps false false false false false true _
           e0
           (sym c.too_high.ensures ∙ c.if-too_high.false)
           (le-ltb _ _ c.if-commit-gt-MAX_PARENTS.false)
-          (sym (c.is_some.ensures ∙ ap is_some c.find.ensures.answer ∙ some_present (place_of H c.args.commit.now.id)) ∙ c.if-is_some.false)
+          (sym (c.is_some.ensures ∙ ap is_some c.find.ensures.answer ∙ some_present (place_of H (num c.args.commit.now.id))) ∙ c.if-is_some.false)
           (sym (c.no_such.ensures.answer ∙ list_any-any _ _ ∙ ap (λ (x : List Commit). any (λ p. leb (length x) p) ps) c.find.ensures.same.list) ∙ c.if-no_such.false)
           (sym (c.rises.ensures.answer ∙ ap (λ (x : List Commit). any (exceeds x c.rank.result) ps) s5.list ∙ ap (λ (n : ℕ). any (exceeds H n) ps) c.rank.ensures) ∙ c.if-rises.true)
           refl);
@@ -139,11 +140,11 @@ returns-then-count-capacity g c =
     let r = c.capacity.ensures.answer ∙ s7.capacity in
     record {
       same = same_then s7 c.capacity.ensures.same;
-      answer = ap (λ (o : Option Refusal). unless o tt) (by_tests (g.H.Reader.room h) H c.args.commit.now.id c.args.commit.now.generation c.args.commit.now.date ps false false false false false false true
+      answer = ap (λ (o : Option Refusal). unless o tt) (by_tests (g.H.Reader.room h) H (num c.args.commit.now.id) c.args.commit.now.generation c.args.commit.now.date ps false false false false false false true
           e0
           (sym c.too_high.ensures ∙ c.if-too_high.false)
           (le-ltb _ _ c.if-commit-gt-MAX_PARENTS.false)
-          (sym (c.is_some.ensures ∙ ap is_some c.find.ensures.answer ∙ some_present (place_of H c.args.commit.now.id)) ∙ c.if-is_some.false)
+          (sym (c.is_some.ensures ∙ ap is_some c.find.ensures.answer ∙ some_present (place_of H (num c.args.commit.now.id))) ∙ c.if-is_some.false)
           (sym (c.no_such.ensures.answer ∙ list_any-any _ _ ∙ ap (λ (x : List Commit). any (λ p. leb (length x) p) ps) c.find.ensures.same.list) ∙ c.if-no_such.false)
           (sym (c.rises.ensures.answer ∙ ap (λ (x : List Commit). any (exceeds x c.rank.result) ps) s5.list ∙ ap (λ (n : ℕ). any (exceeds H n) ps) c.rank.ensures) ∙ c.if-rises.false)
           (eq-eqb _ _ (sym n ∙ c.if-count-capacity.true ∙ r)));
@@ -163,11 +164,11 @@ returns g c =
     let r = c.capacity.ensures.answer ∙ s7.capacity in
     record {
       same = same_then s7 c.capacity.ensures.same;
-      answer = ap (λ (o : Option Refusal). unless o tt) (by_tests (g.H.Reader.room h) H c.args.commit.now.id c.args.commit.now.generation c.args.commit.now.date ps false false false false false false false
+      answer = ap (λ (o : Option Refusal). unless o tt) (by_tests (g.H.Reader.room h) H (num c.args.commit.now.id) c.args.commit.now.generation c.args.commit.now.date ps false false false false false false false
           e0
           (sym c.too_high.ensures ∙ c.if-too_high.false)
           (le-ltb _ _ c.if-commit-gt-MAX_PARENTS.false)
-          (sym (c.is_some.ensures ∙ ap is_some c.find.ensures.answer ∙ some_present (place_of H c.args.commit.now.id)) ∙ c.if-is_some.false)
+          (sym (c.is_some.ensures ∙ ap is_some c.find.ensures.answer ∙ some_present (place_of H (num c.args.commit.now.id))) ∙ c.if-is_some.false)
           (sym (c.no_such.ensures.answer ∙ list_any-any _ _ ∙ ap (λ (x : List Commit). any (λ p. leb (length x) p) ps) c.find.ensures.same.list) ∙ c.if-no_such.false)
           (sym (c.rises.ensures.answer ∙ ap (λ (x : List Commit). any (exceeds x c.rank.result) ps) s5.list ∙ ap (λ (n : ℕ). any (exceeds H n) ps) c.rank.ensures) ∙ c.if-rises.false)
           (ne_eqb _ _ (λ e. c.if-count-capacity.false (n ∙ e ∙ sym r))));

@@ -1,5 +1,6 @@
 use Rattle.std.proofs.Common.{◌≡◌, List, [], ◌∷◌, length, sym, refl, ap, ◌∙◌, subst, arith, rules}
 use Rattle.ancestry.specs.Bases.{shared}
+use Rattle.ancestry.specs.Ids.{num, nums}
 use Rattle.history.proofs.Sames.{same_then}
 use Rattle.painting.specs.Bits.{flags}
 use Rattle.painting.specs.Listings.{listed}
@@ -22,24 +23,24 @@ seed-requires-2-clause-inside g c = ids_inside (g.H.Reader.commits c.seed.new.hi
 
 -- the marks once all are told
 seeded : (g : _) (c : After-seed-2 g)
-    → flags c.seed-2.new.self.marks.now ≡ hand_all theirs (places_of (g.H.Reader.commits c.args.history.now) c.args.others.now) (hand_all ours (places_of (g.H.Reader.commits c.args.history.now) (c.args.first ∷ [])) (flags c.new-painter.result.marks.now))
+    → flags c.seed-2.new.self.marks.now ≡ hand_all theirs (places_of (g.H.Reader.commits c.args.history.now) (nums c.args.others.now)) (hand_all ours (places_of (g.H.Reader.commits c.args.history.now) (num c.args.first ∷ [])) (flags c.new-painter.result.marks.now))
 seeded g c =
     let H = g.H.Reader.commits c.args.history.now in
     ids_told H (g.H.Reader.commits c.seed.new.history) theirs c.args.others.now _ _ c.seed.ensures.goes.same.list c.seed-2.ensures.marks
-    ∙ ap (hand_all theirs (places_of H c.args.others.now)) (ids_told H H ours (c.args.first ∷ []) _ _ refl c.seed.ensures.marks)
+    ∙ ap (hand_all theirs (places_of H (nums c.args.others.now))) (ids_told H H ours (c.args.first ∷ []) _ _ refl c.seed.ensures.marks)
 
 pub paint-requires-clause-none : goal.paint-requires-clause-none
 paint-requires-clause-none g c =
     let H = g.H.Reader.commits c.args.history.now in
     let L = (g.H.Reader.lawful c.args.history.now c.requires.whole).lawful in
-    let n = noted_start H L (places_of H (c.args.first ∷ [])) (places_of H c.args.others.now) (places_inside H _) (places_inside H _) (flags c.new-painter.result.marks.now) c.new-painter.ensures.blank in
+    let n = noted_start H L (places_of H (num c.args.first ∷ [])) (places_of H (nums c.args.others.now)) (places_inside H _) (places_inside H _) (flags c.new-painter.result.marks.now) c.new-painter.ensures.blank in
     subst (Noted (flags c.seed-2.new.self.marks.now)) (sym c.clear.ensures.empty) (subst (λ (x : List Mark). Noted x []) (sym (seeded g (goal.at.paint-requires-clause-none g c).After-seed-2)) n)
 
 pub paint-requires-clause-unmet : goal.paint-requires-clause-unmet
 paint-requires-clause-unmet g c =
     let H = g.H.Reader.commits c.args.history.now in
     let L = (g.H.Reader.lawful c.args.history.now c.requires.whole).lawful in
-    let u = unmet_start H L (places_of H (c.args.first ∷ [])) (places_of H c.args.others.now) (places_inside H _) (places_inside H _) (flags c.new-painter.result.marks.now) c.new-painter.ensures.blank in
+    let u = unmet_start H L (places_of H (num c.args.first ∷ [])) (places_of H (nums c.args.others.now)) (places_inside H _) (places_inside H _) (flags c.new-painter.result.marks.now) c.new-painter.ensures.blank in
     subst Unmet (sym (seeded g (goal.at.paint-requires-clause-unmet g c).After-seed-2)) u
 
 -- the painter has a mark for each commit, as there were at first
@@ -52,13 +53,13 @@ pub returns-clause-few : goal.returns-clause-few
 returns-clause-few g c = omega (arith, few_noted _ _ c.paint.ensures.noted, size g (goal.at.returns-clause-few g c).After-paint)
 
 -- what painting leaves
-painted : (g : _) (c : After-paint g) → flags c.seed-2.new.self.marks.now ≡ hand_all theirs (places_of (g.H.Reader.commits c.args.history.now) c.args.others.now) (hand_all ours (places_of (g.H.Reader.commits c.args.history.now) (c.args.first ∷ [])) (flags c.new-painter.result.marks.now))
-    → Painted (g.H.Reader.commits c.args.history.now) (shared (g.H.Reader.commits c.args.history.now) c.args.first c.args.others.now) (flags c.paint.new.self.marks.now) (listed c.paint.new.results)
+painted : (g : _) (c : After-paint g) → flags c.seed-2.new.self.marks.now ≡ hand_all theirs (places_of (g.H.Reader.commits c.args.history.now) (nums c.args.others.now)) (hand_all ours (places_of (g.H.Reader.commits c.args.history.now) (num c.args.first ∷ [])) (flags c.new-painter.result.marks.now))
+    → Painted (g.H.Reader.commits c.args.history.now) (shared (g.H.Reader.commits c.args.history.now) (num c.args.first) (nums c.args.others.now)) (flags c.paint.new.self.marks.now) (listed c.paint.new.results)
 painted g c start =
     let H = g.H.Reader.commits c.args.history.now in
     let L = (g.H.Reader.lawful c.args.history.now c.requires.whole).lawful in
-    let f = c.args.first in
-    let zs = c.args.others.now in
+    let f = num c.args.first in
+    let zs = nums c.args.others.now in
     painted_from H (g.H.Reader.commits c.seed-2.new.history) L (shared H f zs) (places_of H (f ∷ [])) (places_of H zs) (flags c.new-painter.result.marks.now) (flags c.seed-2.new.self.marks.now) (flags c.paint.new.self.marks.now) (listed c.paint.new.results)
     (same_then c.seed.ensures.goes.same c.seed-2.ensures.goes.same).list (omega (arith, length-flags c.new-painter.result.marks.now, c.new-painter.ensures.size, c.requires.size)) (size g c)
     (places_inside H (f ∷ [])) (places_inside H zs) (λ p _. shared_is H f zs p) c.new-painter.ensures.blank start c.paint.ensures.good c.paint.ensures.idle c.paint.ensures.noted c.paint.ensures.unmet
@@ -70,4 +71,4 @@ pub returns-clause-painted : goal.returns-clause-painted
 returns-clause-painted g c =
     let w = goal.at.returns-clause-painted g c in
     let k : c.paint.new.self.marks.ghost_name ≡ _ = c.paint.ensures.goes.held ∙ c.seed-2.ensures.goes.held ∙ c.seed.ensures.goes.held ∙ c.new-painter.ensures.held in
-    painted_at (g.H.Reader.commits c.args.history.now) (shared (g.H.Reader.commits c.args.history.now) c.args.first c.args.others.now) (listed c.paint.new.results) c.paint.new.self.marks.now _ (search rules) (painted g w.After-paint (seeded g w.After-seed-2))
+    painted_at (g.H.Reader.commits c.args.history.now) (shared (g.H.Reader.commits c.args.history.now) (num c.args.first) (nums c.args.others.now)) (listed c.paint.new.results) c.paint.new.self.marks.now _ (search rules) (painted g w.After-paint (seeded g w.After-seed-2))

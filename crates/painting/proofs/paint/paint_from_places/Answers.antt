@@ -1,5 +1,6 @@
 use Rattle.std.proofs.Common.{◌≡◌, ℕ, true, List, [], ◌∷◌, length, sym, refl, ap, ◌∙◌, subst, arith, rules}
 use Rattle.ancestry.specs.Sets.{member}
+use Rattle.ancestry.specs.Ids.{num}
 use Rattle.history.proofs.Sames.{same_then}
 use Rattle.painting.specs.Bits.{flags}
 use Rattle.painting.specs.Listings.{listed}
@@ -22,7 +23,7 @@ seed-requires-2-clause-inside g c = places_inside_too (g.H.Reader.commits c.seed
 
 -- the marks once all are told
 seeded : (g : _) (c : After-seed-2 g)
-    → flags c.seed-2.new.self.marks.now ≡ hand_all theirs (listed c.args.results.now) (hand_all ours (places_of (g.H.Reader.commits c.args.history.now) (c.args.id ∷ [])) (flags c.new-painter.result.marks.now))
+    → flags c.seed-2.new.self.marks.now ≡ hand_all theirs (listed c.args.results.now) (hand_all ours (places_of (g.H.Reader.commits c.args.history.now) (num c.args.id ∷ [])) (flags c.new-painter.result.marks.now))
 seeded g c =
     let H = g.H.Reader.commits c.args.history.now in
     places_told theirs (listed c.args.results.now) c.as_slice.result.now _ _ c.as_slice.ensures c.seed-2.ensures.marks
@@ -32,14 +33,14 @@ pub paint-requires-clause-none : goal.paint-requires-clause-none
 paint-requires-clause-none g c =
     let H = g.H.Reader.commits c.args.history.now in
     let L = (g.H.Reader.lawful c.args.history.now c.requires.whole).lawful in
-    let n = noted_start H L (places_of H (c.args.id ∷ [])) (listed c.args.results.now) (places_inside H _) c.requires.inside (flags c.new-painter.result.marks.now) c.new-painter.ensures.blank in
+    let n = noted_start H L (places_of H (num c.args.id ∷ [])) (listed c.args.results.now) (places_inside H _) c.requires.inside (flags c.new-painter.result.marks.now) c.new-painter.ensures.blank in
     subst (Noted (flags c.seed-2.new.self.marks.now)) (sym c.clear.ensures.empty) (subst (λ (x : List Mark). Noted x []) (sym (seeded g (goal.at.paint-requires-clause-none g c).After-seed-2)) n)
 
 pub paint-requires-clause-unmet : goal.paint-requires-clause-unmet
 paint-requires-clause-unmet g c =
     let H = g.H.Reader.commits c.args.history.now in
     let L = (g.H.Reader.lawful c.args.history.now c.requires.whole).lawful in
-    let u = unmet_start H L (places_of H (c.args.id ∷ [])) (listed c.args.results.now) (places_inside H _) c.requires.inside (flags c.new-painter.result.marks.now) c.new-painter.ensures.blank in
+    let u = unmet_start H L (places_of H (num c.args.id ∷ [])) (listed c.args.results.now) (places_inside H _) c.requires.inside (flags c.new-painter.result.marks.now) c.new-painter.ensures.blank in
     subst Unmet (sym (seeded g (goal.at.paint-requires-clause-unmet g c).After-seed-2)) u
 
 -- the painter has a mark for each commit, as there were at first
@@ -52,12 +53,12 @@ pub returns-clause-few : goal.returns-clause-few
 returns-clause-few g c = omega (arith, few_noted _ _ c.paint.ensures.noted, size g (goal.at.returns-clause-few g c).After-paint)
 
 -- what painting leaves
-painted : (g : _) (c : After-paint g) → flags c.seed-2.new.self.marks.now ≡ hand_all theirs (listed c.args.results.now) (hand_all ours (places_of (g.H.Reader.commits c.args.history.now) (c.args.id ∷ [])) (flags c.new-painter.result.marks.now))
-    → Painted (g.H.Reader.commits c.args.history.now) (meeting (g.H.Reader.commits c.args.history.now) c.args.id (listed c.args.results.now)) (flags c.paint.new.self.marks.now) (listed c.paint.new.results)
+painted : (g : _) (c : After-paint g) → flags c.seed-2.new.self.marks.now ≡ hand_all theirs (listed c.args.results.now) (hand_all ours (places_of (g.H.Reader.commits c.args.history.now) (num c.args.id ∷ [])) (flags c.new-painter.result.marks.now))
+    → Painted (g.H.Reader.commits c.args.history.now) (meeting (g.H.Reader.commits c.args.history.now) (num c.args.id) (listed c.args.results.now)) (flags c.paint.new.self.marks.now) (listed c.paint.new.results)
 painted g c start =
     let H = g.H.Reader.commits c.args.history.now in
     let L = (g.H.Reader.lawful c.args.history.now c.requires.whole).lawful in
-    let f = c.args.id in
+    let f = num c.args.id in
     let ps = listed c.args.results.now in
     painted_from H (g.H.Reader.commits c.seed-2.new.history) L (meeting H f ps) (places_of H (f ∷ [])) ps (flags c.new-painter.result.marks.now) (flags c.seed-2.new.self.marks.now) (flags c.paint.new.self.marks.now) (listed c.paint.new.results)
     (same_then c.seed.ensures.goes.same c.seed-2.ensures.goes.same).list (omega (arith, length-flags c.new-painter.result.marks.now, c.new-painter.ensures.size, c.requires.size)) (size g c)
@@ -70,4 +71,4 @@ pub returns-clause-painted : goal.returns-clause-painted
 returns-clause-painted g c =
     let w = goal.at.returns-clause-painted g c in
     let k : c.paint.new.self.marks.ghost_name ≡ _ = c.paint.ensures.goes.held ∙ c.seed-2.ensures.goes.held ∙ c.seed.ensures.goes.held ∙ c.new-painter.ensures.held in
-    painted_at (g.H.Reader.commits c.args.history.now) (meeting (g.H.Reader.commits c.args.history.now) c.args.id (listed c.args.results.now)) (listed c.paint.new.results) c.paint.new.self.marks.now _ (search rules) (painted g w.After-paint (seeded g w.After-seed-2))
+    painted_at (g.H.Reader.commits c.args.history.now) (meeting (g.H.Reader.commits c.args.history.now) (num c.args.id) (listed c.args.results.now)) (listed c.paint.new.results) c.paint.new.self.marks.now _ (search rules) (painted g w.After-paint (seeded g w.After-seed-2))

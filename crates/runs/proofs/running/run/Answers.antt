@@ -40,7 +40,7 @@ loop-call-preserved g c =
       subst (λ (es : List Event). Went g.H.Reader c.args.history.now (sizes_of c.args.space.now) es c.step.new.history) e
           (went_more g.H.Reader c.args.history.now (sizes_of c.args.space.now) es c.loop-call.history c.step.new.history (sizes_of c.loop-call.space) c.in-Ok.event v.0 v.2 r.whole r.capacity r.list r.right),
       subst (λ (es : List Event). map call_of es ≡ take (i + 1) calls) e
-          (calls_more calls i es c.in-Ok.event v.1 (take_more calls i c.call-item.result c.loop-call-test.true ∙ ap (λ (d : Call). take i calls ++ d ∷ []) (sym c.call-item.is ∙ sym r.call))),
+          (calls_more calls i es c.in-Ok.event v.1 (take_more calls i _ c.loop-call-test.true ∙ ap (λ (d : Call). take i calls ++ d ∷ []) (sym r.call))),
       c.step.ensures.sizes ∙ v.2,
       omega (arith, c.push_reserved.ensures.capacity, v.3),
     )

@@ -1,5 +1,6 @@
 use Rattle.std.proofs.Common.{◌≡◌, ap, ◌∙◌, refl, arith}
 use Rattle.ancestry.specs.Numbers.{letters, hex, from_hex}
+use Rattle.ancestry.specs.Ids.{num}
 use Rattle.ancestry.proofs.Letters.{hex-letters, hex-back, lettered_more}
 use Rattle.ancestry.proofs.id.Id.to_hex.Goals as goal
 
@@ -9,9 +10,10 @@ loop-i-preserved c = rw c.to_bytes-bytes.ensures.bytes (lettered_more _ c.loop-i
 
 pub returns : goal.returns
 returns c =
-    let spelt : c.loop-i.text ≡ hex c.args.self = hex-letters _ _ _ refl c.loop-i.invariant.0 (λ k l. c.loop-i.invariant.1 k (omega arith)) in
+    let spelt : c.loop-i.text ≡ hex (num c.args.self) = hex-letters _ _ _ refl c.loop-i.invariant.0 (λ k l. c.loop-i.invariant.1 k (omega arith)) in
     record {
       letters = spelt;
-      back = ap from_hex spelt ∙ hex-back c.args.self c.to_bytes-bytes.ensures.bits;
+      back = ap from_hex spelt ∙ hex-back (num c.args.self) c.to_bytes-bytes.ensures.bits;
       bits = c.to_bytes-bytes.ensures.bits;
+      held = c.to_bytes-bytes.ensures.held;
     }

@@ -1,4 +1,6 @@
 use Rattle.std.proofs.Common.{ℕ, List, length, subst}
+use Rattle.ancestry.specs.Ids.{num}
+use Rattle.ancestry.specs.declared.id.Id.{Id}
 use Rattle.ancestry.specs.Commits.{Commit}
 use Rattle.history.proofs.Sames.{same_then}
 use Rattle.painting.specs.Listings.{listed}
@@ -17,5 +19,5 @@ loop-other-preserved g c =
     let r = c.round.ensures in (
       same_then i.0 r.same,
       subst (λ (G : List Commit). Fits (length G) c.round.new.self) i.0.list r.fits,
-      folded_more H K L c.args.first c.args.others.now c.loop-other.other-index c.other-item.result (listed c.loop-other.self.results) (listed c.round.new.self.results) c.loop-other-test.true i.0.list i.2 (subst (λ (j : ℕ). Bests K (meeting K j (listed c.loop-other.self.results)) (listed c.round.new.self.results)) c.other-item.is r.bests),
+      folded_more H K L (num c.args.first) c.args.others.now c.loop-other.other-index _ (listed c.loop-other.self.results) (listed c.round.new.self.results) c.loop-other-test.true i.0.list i.2 r.bests,
     )

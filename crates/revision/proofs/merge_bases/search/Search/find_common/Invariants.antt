@@ -1,4 +1,5 @@
 use Rattle.std.proofs.Common.{length, take}
+use Rattle.ancestry.specs.Ids.{num, nums}
 use Rattle.history.specs.Meaning.{Same}
 use Rattle.painting.specs.Listings.{listed}
 use Rattle.revision.specs.Folding.{Folded}
@@ -11,4 +12,4 @@ invariant-loop-other g l =
     let H = m.commits l.fn.history in
     Same m.whole m.commits m.room l.fn.history l.history
     × Fits (length H) l.self
-    × Folded H l.fn.first ((take l.other-index l.others)) (listed l.self.results)
+    × Folded H (num l.fn.first) (nums (take l.other-index l.others)) (listed l.self.results)

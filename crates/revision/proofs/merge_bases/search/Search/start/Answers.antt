@@ -1,6 +1,7 @@
 use Rattle.std.proofs.Common.{[], sym, ap, ◌∙◌, subst, length, arith}
 use Rattle.std.proofs.lemmas.List.{length_push}
 use Rattle.ancestry.proofs.Join.{place_says}
+use Rattle.ancestry.specs.Ids.{num}
 use Rattle.painting.specs.Listings.{listed}
 use Rattle.revision.specs.Folding.{Spans}
 use Rattle.revision.proofs.Folds.{start_held, start_none}
@@ -23,8 +24,8 @@ returns-clause-fits g c =
 
 pub returns-clause-spans : goal.returns-clause-spans
 returns-clause-spans g c =
-    start_held (g.H.Reader.commits c.args.history.now) (g.H.Reader.lawful c.args.history.now c.requires.whole).lawful c.args.first c.in-Some.place (listed c.args.self.now.results) (listed c.push.new.self)
+    start_held (g.H.Reader.commits c.args.history.now) (g.H.Reader.lawful c.args.history.now c.requires.whole).lawful (num c.args.first) c.in-Some.place (listed c.args.self.now.results) (listed c.push.new.self)
     (sym c.find.ensures.answer ∙ c.in-Some.is) c.requires.none c.push.ensures.listed
 
 pub returns-in_default-clause-spans : goal.returns-in_default-clause-spans
-returns-in_default-clause-spans g c = subst (Spans (g.H.Reader.commits c.args.history.now) c.args.first []) (sym c.requires.none) (start_none _ (g.H.Reader.lawful c.args.history.now c.requires.whole).lawful c.args.first (sym c.find.ensures.answer ∙ c.in_default.is))
+returns-in_default-clause-spans g c = subst (Spans (g.H.Reader.commits c.args.history.now) (num c.args.first) []) (sym c.requires.none) (start_none _ (g.H.Reader.lawful c.args.history.now c.requires.whole).lawful (num c.args.first) (sym c.find.ensures.answer ∙ c.in_default.is))

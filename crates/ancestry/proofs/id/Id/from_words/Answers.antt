@@ -1,7 +1,0 @@
-use Rattle.std.proofs.Common.{sym, ap, arith}
-use Rattle.ancestry.specs.Numbers.{spelled}
-use Rattle.ancestry.proofs.Bytes.{five}
-use Rattle.ancestry.proofs.id.Id.from_words.Goals as goal
-
-pub returns : goal.returns
-returns c = ap (spelled 4294967296) (sym (five c.args.words (omega arith)))
