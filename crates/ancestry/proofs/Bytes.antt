@@ -4,14 +4,19 @@ use Rattle.std.specs.List.{AllByRecursion}
 use Rattle.std.proofs.ByRecursion.{All-get_or, All-append}
 use Rattle.ancestry.specs.Numbers.{spelled_on, spelled, digits, part}
 use Rattle.ancestry.specs.Digits.{digits-spelled}
-use Rattle.ancestry.specs.Ids.{num, Words, words_of, words_back}
+use Rattle.ancestry.specs.Ids.{num, Words, spelled-words}
 use Rattle.ancestry.specs.declared.id.Id.{Id}
 use Rattle.ancestry.specs.Theorems.{IdLaw}
 use Rattle.ancestry.proofs.Spelling.{part-cons, part_all, part_length, part_split, spelled_shift, spelled_split}
 
 pub id_law : IdLaw
 id_law a b v w e =
-    sym (words_back a v) ∙ ap words_of e ∙ words_back b w
+    let e1 : a.first ≡ b.first = omega arith in
+    let e2 : a.second ≡ b.second = omega arith in
+    let e3 : a.third ≡ b.third = omega arith in
+    let e4 : a.fourth ≡ b.fourth = omega arith in
+    let e5 : a.fifth ≡ b.fifth = omega arith in
+    λ i. record { first = e1 i; second = e2 i; third = e3 i; fourth = e4 i; fifth = e5 i }
 
 -- WORDS AND BYTES
 four_more : (xs : List ℕ) (i n : ℕ) → i + 4 ≤ length xs → spelled_on 256 n (part xs i 4) ≡ n * 4294967296 + spelled 256 (part xs i 4)
@@ -77,9 +82,6 @@ id_bytes v w x y z a b c d e =
     ap (digits 256 20) (sym (spelled_words 0 (v ∷ w ∷ x ∷ y ∷ z ∷ []) (a, (b, (c, (d, (e, tt)))))))
     ∙ digits-spelled 256 (all_bytes (v ∷ w ∷ x ∷ y ∷ z ∷ [])) 20 refl (λ j l. All-get_or (λ b. b < 256) (all_bytes (v ∷ w ∷ x ∷ y ∷ z ∷ [])) j 0 l (all_small (v ∷ w ∷ x ∷ y ∷ z ∷ [])))
 
-word_bits : (i : Id) → Words i → (j : ℕ) → j < length i.words → get_or i.words j 0 < 4294967296
-word_bits i w j l = All-get_or (λ d. d < 4294967296) i.words j 0 l w.bits
-
 pub spelled_five : (v w x y z : ℕ) →
     spelled 4294967296 (v ∷ w ∷ x ∷ y ∷ z ∷ []) ≡ (((v * 4294967296 + w) * 4294967296 + x) * 4294967296 + y) * 4294967296 + z
 unfolding spelled_on
@@ -87,20 +89,12 @@ spelled_five v w x y z = omega arith
 
 -- the number of an id has 160 bits
 pub num-bits : (i : Id) → Words i → num i < 1461501637330902918203684832716283019655932542976
-num-bits i w =
-    let e : num i ≡ (((get_or i.words 0 0 * 4294967296 + get_or i.words 1 0) * 4294967296 + get_or i.words 2 0) * 4294967296 + get_or i.words 3 0) * 4294967296 + get_or i.words 4 0
-    = ap (spelled 4294967296) (five i.words w.five) ∙ spelled_five _ _ _ _ _ in
-    let five_long : length i.words ≡ 5 = w.five in
-    omega (arith, word_bits i w 0 (omega arith), word_bits i w 1 (omega arith), word_bits i w 2 (omega arith), word_bits i w 3 (omega arith), word_bits i w 4 (omega arith))
+num-bits i w = omega (arith, w.first, w.second, w.third, w.fourth, w.fifth)
 
 -- the twenty bytes of an id, as the four bytes of each word are read out
-pub id_bytes_out : (i : Id) → Words i → (n : ℕ) → num i ≡ n → (a b c d e : List ℕ) →
-    a ≡ bytes_of (get_or i.words 0 0) → b ≡ bytes_of (get_or i.words 1 0) → c ≡ bytes_of (get_or i.words 2 0) → d ≡ bytes_of (get_or i.words 3 0) → e ≡ bytes_of (get_or i.words 4 0)
+pub id_bytes_out : (i : Id) → Words i → (a b c d e : List ℕ) →
+    a ≡ bytes_of i.first → b ≡ bytes_of i.second → c ≡ bytes_of i.third → d ≡ bytes_of i.fourth → e ≡ bytes_of i.fifth
     → (get_or a 0 0 ∷ get_or a 1 0 ∷ get_or a 2 0 ∷ get_or a 3 0 ∷ get_or b 0 0 ∷ get_or b 1 0 ∷ get_or b 2 0 ∷ get_or b 3 0 ∷ get_or c 0 0 ∷ get_or c 1 0 ∷ get_or c 2 0 ∷ get_or c 3 0 ∷ get_or d 0 0 ∷ get_or d 1 0 ∷ get_or d 2 0 ∷ get_or d 3 0 ∷ get_or e 0 0 ∷ get_or e 1 0 ∷ get_or e 2 0 ∷ get_or e 3 0 ∷ [])
-    ≡ digits 256 20 n
-id_bytes_out i w n is a b c d e p q r s t =
-    let l : length i.words ≡ 5 = w.five in
-    let all : digits 256 20 (spelled 4294967296 (get_or i.words 0 0 ∷ get_or i.words 1 0 ∷ get_or i.words 2 0 ∷ get_or i.words 3 0 ∷ get_or i.words 4 0 ∷ []))
-    ≡ all_bytes (get_or i.words 0 0 ∷ get_or i.words 1 0 ∷ get_or i.words 2 0 ∷ get_or i.words 3 0 ∷ get_or i.words 4 0 ∷ [])
-    = id_bytes _ _ _ _ _ (word_bits i w 0 (omega arith)) (word_bits i w 1 (omega arith)) (word_bits i w 2 (omega arith)) (word_bits i w 3 (omega arith)) (word_bits i w 4 (omega arith)) in
-    rw (p, q, r, s, t) (sym all ∙ ap (digits 256 20) (ap (spelled 4294967296) (sym (five i.words l)) ∙ is))
+    ≡ digits 256 20 (num i)
+id_bytes_out i w a b c d e p q r s t =
+    rw (p, q, r, s, t) (sym (id_bytes i.first i.second i.third i.fourth i.fifth w.first w.second w.third w.fourth w.fifth) ∙ ap (digits 256 20) (spelled-words i))

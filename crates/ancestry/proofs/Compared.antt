@@ -1,5 +1,5 @@
 -- Digits compare as the numbers that they spell.
-use Rattle.std.proofs.Common.{◌≡◌, ℕ, suc, ◌+◌, ◌*◌, ◌<◌, ◌≤◌, List, [], ◌∷◌, length, refl, sym, ap, ◌∙◌, subst, arith, nat_cmp, is_eq, nat_eq}
+use Rattle.std.proofs.Common.{◌≡◌, ℕ, Bool, true, false, ◌&&◌, suc, ◌+◌, ◌*◌, ◌<◌, ◌≤◌, List, [], ◌∷◌, length, refl, sym, ap, ◌∙◌, arith, nat_cmp, is_eq, nat_eq}
 use Rattle.std.proofs.Math.Nat.{mul-le-mul_left, mul_comm}
 use Rattle.std.specs.declared.cmp.Ordering.{Ordering}
 use Rattle.std.specs.declared.cmp.Ordering.TheVariants.{Less, Equal, Greater}
@@ -9,10 +9,9 @@ use Rattle.std.specs.Cmp.Lexicographic.{slice_cmp, pointwise}
 use Rattle.std.specs.List.{AllByRecursion}
 use Rattle.std.proofs.lemmas.Map.Text.{is_eq-slice_cmp}
 use Rattle.ancestry.specs.Numbers.{spelled_on, spelled}
-use Rattle.ancestry.specs.Ids.{num, Words, same_words, same_id, words_cmp, id_cmp}
+use Rattle.ancestry.specs.Ids.{num, words, Words, word_bits, spelled-words, same_words, same_id, words_cmp, id_cmp}
 use Rattle.ancestry.specs.declared.id.Id.{Id}
 use Rattle.ancestry.specs.Theorems.{OrderLaw}
-use Rattle.ancestry.proofs.Bytes.{id_law}
 
 -- a number below another lies below it with any digit after each
 below_then : (b n m x y : ℕ) → x < b → n < m → n * b + x < m * b + y
@@ -62,20 +61,24 @@ pub eq-spelled : (b : ℕ) (xs ys : List ℕ) → length xs ≡ length ys → Al
 eq-spelled b xs ys e p q =
     sym (is_eq-slice_cmp xs ys) ∙ ap is_eq (cmp-spelled b xs ys e p q) ∙ sym (unsigned_ties (spelled b xs) (spelled b ys))
 
+in_chain : (p q r s t : Bool) → (p && (q && (r && (s && (t && true))))) ≡ (p && (q && (r && (s && t))))
+in_chain p q r s true = refl
+in_chain p q r s false = refl
+
+-- ids are equal where the lists of their words are
+pub same_lists : (a b : Id) → pointwise nat_eq (words a) (words b) ≡ same_words a b
+same_lists a b = in_chain (nat_eq a.first b.first) (nat_eq a.second b.second) (nat_eq a.third b.third) (nat_eq a.fourth b.fourth) (nat_eq a.fifth b.fifth)
+
 -- ids are equal and compare by their words as by their numbers
 pub same_by_number : (a b : Id) → Words a → Words b → same_words a b ≡ same_id a b
-same_by_number a b v w = eq-spelled 4294967296 a.words b.words (v.five ∙ sym w.five) v.bits w.bits
+same_by_number a b v w =
+    sym (same_lists a b) ∙ eq-spelled 4294967296 (words a) (words b) refl (word_bits a v) (word_bits b w)
+    ∙ ap (λ (n : ℕ). nat_eq n (spelled 4294967296 (words b))) (spelled-words a) ∙ ap (nat_eq (num a)) (spelled-words b)
 
 pub by_number : (a b : Id) → Words a → Words b → words_cmp a b ≡ id_cmp a b
-by_number a b v w = cmp-spelled 4294967296 a.words b.words (v.five ∙ sym w.five) v.bits w.bits
-
-pub order_ids : (a b : Id) (o : Ordering) → Words a → Words b → o ≡ id_cmp a b → MatchOrdering o (num a < num b) (a ≡ b) (num b < num a)
-order_ids a b o v w e = go o (subst (λ (x : Ordering). MatchOrdering x (num a < num b) (num a ≡ num b) (num b < num a)) (sym e) (ranks (num a) (num b)))
-  where
-    go : (o : Ordering) → MatchOrdering o (num a < num b) (num a ≡ num b) (num b < num a) → MatchOrdering o (num a < num b) (a ≡ b) (num b < num a)
-    go Less h = h
-    go Equal h = id_law a b v w h
-    go Greater h = h
+by_number a b v w =
+    cmp-spelled 4294967296 (words a) (words b) refl (word_bits a v) (word_bits b w)
+    ∙ ap (λ (n : ℕ). nat_cmp n (spelled 4294967296 (words b))) (spelled-words a) ∙ ap (nat_cmp (num a)) (spelled-words b)
 
 pub order_law : OrderLaw
 order_law a b v w = (same_by_number a b v w, by_number a b v w)

@@ -1,6 +1,7 @@
 -- The words of specs/ that are words of the library under another name.
-use Rattle.std.proofs.Common.{◌≡◌, ℕ, suc, ◌+◌, ◌<◌, ◌≤◌, Bool, true, false, cond, not, List, [], ◌∷◌, length, Some, None, Option, refl, ap, ◌∙◌, eqb, ltb, arith}
+use Rattle.std.proofs.Common.{◌≡◌, ℕ, suc, ◌+◌, ◌<◌, ◌≤◌, Bool, true, false, cond, not, List, [], ◌∷◌, length, Some, None, Option, refl, sym, ap, ◌∙◌, eqb, ltb, arith}
 use Rattle.std.specs.List.{position, position_or_len, list_any, list_all}
+use Rattle.std.proofs.lemmas.List.Folds.{list_all-map}
 use Rattle.std.proofs.lemmas.Bool.Decides.{nat_tests}
 use Rattle.std.proofs.lemmas.Bool.{ltb-true, ltb-false, lt-ltb, le-ltb}
 use Rattle.ancestry.specs.Sets.{any, every, member, next, index_of}
@@ -26,15 +27,15 @@ list_any-member x [] = refl
 list_any-member x (y ∷ ys) = rw (eqb_swap x y, list_any-member x ys)
 
 -- ids in a list are their numbers in the list of numbers
+any_number : (t : ℕ → Bool) (js : List Id) → list_any (λ j. t (num j)) js ≡ list_any t (nums js)
+any_number t [] = refl
+any_number t (j ∷ js) = rw (any_number t js)
+
 pub any-same : (i : Id) (js : List Id) → list_any (λ j. same_id j i) js ≡ member (num i) (nums js)
-unfolding member any
-any-same i [] = refl
-any-same i (j ∷ js) = rw (eqb_swap (num i) (num j), any-same i js)
+any-same i js = any_number (λ n. eqb n (num i)) js ∙ list_any-member (num i) (nums js)
 
 pub all-same : (i : Id) (js : List Id) → list_all (same_id i) js ≡ every (eqb (num i)) (nums js)
-unfolding every
-all-same i [] = refl
-all-same i (j ∷ js) = rw (all-same i js)
+all-same i js = sym (list_all-map (eqb (num i)) num js) ∙ list_all-every (eqb (num i)) (nums js)
 
 -- the steps of a search from the front
 moved : (k n : ℕ) (t : Bool) → ltb k n ≡ t → cond (ltb (1 + k) (suc n)) (Some (1 + k)) None ≡ next (cond t (Some k) None)

@@ -1,6 +1,5 @@
 ghost use Rattle.std.specs.Prelude.{◌≡◌, ℕ, ◌+◌, ◌^◌, ◌<◌, ◌≤◌, length, Some, IfSome, ◌==◌, position};
-ghost use Rattle.std.specs.Option.{option_map};
-ghost use Rattle.ancestry.specs.Ids.{num, num_if, words_of};
+ghost use Rattle.ancestry.specs.Ids.{num, num_if};
 ghost use Rattle.ancestry.specs.Numbers.{letters, reading, part, from_hex, hex};
 
 use crate::id::Id;
@@ -12,8 +11,7 @@ const LETTERS: [u8; 16] = *b"0123456789abcdef";
 impl Id {
     /// The id that forty hexadecimal digits spell, a to f small, or none.
     pub fn from_hex(text: &[u8]) -> Option<Id>
-        ensures number { num_if result ≡ from_hex text.now }
-        ensures held { result ≡ option_map words_of (from_hex text.now) }
+        ensures { num_if result ≡ from_hex text.now }
     {
         if text.len() != 40 {
             return None;
@@ -25,7 +23,11 @@ impl Id {
         let fourth = word(text, 24)?;
         let fifth = word(text, 32)?;
         Some(Id {
-            words: [first, second, third, fourth, fifth],
+            first,
+            second,
+            third,
+            fourth,
+            fifth,
         })
     }
 
@@ -34,7 +36,6 @@ impl Id {
         ensures letters { result ≡ hex (num self) }
         ensures back { from_hex result ≡ Some (num self) }
         ensures bits { num self < 2 ^ 160 }
-        ensures held { self ≡ words_of (num self) }
     {
         let bytes = self.to_bytes();
         // Two letters for each byte, at twice its number.

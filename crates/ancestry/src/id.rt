@@ -4,7 +4,7 @@ ghost use Rattle.std.specs.Cmp.{partial_order_from_own_ties};
 ghost use Rattle.std.specs.Cmp.Rules.{comparing};
 ghost use Rattle.std.proofs.Common.{rules};
 ghost use Rattle.ancestry.specs.Numbers.{spelled, digits, part};
-ghost use Rattle.ancestry.specs.Ids.{num, same_id, id_cmp, same_words, words_cmp, Words, words_of};
+ghost use Rattle.ancestry.specs.Ids.{num, same_id, id_cmp, same_words, words_cmp, words, Words};
 
 use std::cmp::Ordering;
 
@@ -14,8 +14,11 @@ use std::cmp::Ordering;
 /// numbers alike: equality and order are written out, since derived ones would promise it of the words alone.
 #[derive(Clone, Copy, Default, Debug)]
 pub struct Id {
-    /// Its words of 32 bits, the most significant first.
-    pub words: [u32; 5],
+    pub first: u32,
+    pub second: u32,
+    pub third: u32,
+    pub fourth: u32,
+    pub fifth: u32,
 }
 
 impl PartialEq for Id {
@@ -27,9 +30,7 @@ impl PartialEq for Id {
         ensures words { result ≡ same_words self.now other.now }
         ensures number { result ≡ same_id self.now other.now }
     {
-        self.read_words();
-        other.read_words();
-        self.words == other.words
+        self.as_words() == other.as_words()
     }
 }
 
@@ -50,9 +51,7 @@ impl Ord for Id {
         ensures words { result ≡ words_cmp self.now other.now }
         ensures number { result ≡ id_cmp self.now other.now }
     {
-        self.read_words();
-        other.read_words();
-        self.words.cmp(&other.words)
+        self.as_words().cmp(&other.as_words())
     }
 }
 
@@ -74,36 +73,47 @@ impl PartialOrd for Id {
 impl Id {
     /// The id whose words of 32 bits these are, the most significant first.
     pub fn from_words(words: [u32; 5]) -> Id
-        ensures held { result.words ≡ words }
-        ensures number { num result ≡ spelled 4294967296 words }
+        ensures { num result ≡ spelled 4294967296 words }
     {
-        Id { words }
+        let [first, second, third, fourth, fifth] = words;
+        Id {
+            first,
+            second,
+            third,
+            fourth,
+            fifth,
+        }
     }
 
     /// The words of the id.
-    pub fn as_words(&self) -> &[u32; 5]
-        ensures words { result.now ≡ digits 4294967296 5 (num self.now) }
-        ensures back { spelled 4294967296 result.now ≡ num self.now }
+    pub fn as_words(&self) -> [u32; 5]
+        ensures own { result ≡ words self.now }
+        ensures words { result ≡ digits 4294967296 5 (num self.now) }
+        ensures back { spelled 4294967296 result ≡ num self.now }
+        ensures fits { Words self.now }
         ensures bits { num self.now < 2 ^ 160 }
-        ensures held { self.now ≡ words_of (num self.now) }
     {
-        self.read_words();
-        &self.words
+        self.in_words()
+    }
+
+    // The same of an id by value, of whose words the check knows that they have 32 bits.
+    fn in_words(self) -> [u32; 5]
+        ensures own { result ≡ words self }
+        ensures fits { Words self }
+    {
+        [self.first, self.second, self.third, self.fourth, self.fifth]
     }
 
     /// The id whose bytes these are.
     pub fn from_bytes(bytes: [u8; 20]) -> Id
-        ensures number { num result ≡ spelled 256 bytes }
-        ensures held { result ≡ words_of (spelled 256 bytes) }
+        ensures { num result ≡ spelled 256 bytes }
     {
         Id {
-            words: [
-                word(&bytes, 0),
-                word(&bytes, 4),
-                word(&bytes, 8),
-                word(&bytes, 12),
-                word(&bytes, 16),
-            ],
+            first: word(&bytes, 0),
+            second: word(&bytes, 4),
+            third: word(&bytes, 8),
+            fourth: word(&bytes, 12),
+            fifth: word(&bytes, 16),
         }
     }
 
@@ -112,16 +122,13 @@ impl Id {
         ensures bytes { result ≡ digits 256 20 (num self) }
         ensures back { spelled 256 result ≡ num self }
         ensures bits { num self < 2 ^ 160 }
-        ensures held { self ≡ words_of (num self) }
     {
-        self.read_words();
         // Written out: a loop over words and bytes at once would count both by hand.
-        let [a, b, c, d, e] = self.words;
-        let a = a.to_be_bytes();
-        let b = b.to_be_bytes();
-        let c = c.to_be_bytes();
-        let d = d.to_be_bytes();
-        let e = e.to_be_bytes();
+        let a = self.first.to_be_bytes();
+        let b = self.second.to_be_bytes();
+        let c = self.third.to_be_bytes();
+        let d = self.fourth.to_be_bytes();
+        let e = self.fifth.to_be_bytes();
         [
             a[0], a[1], a[2], a[3], b[0], b[1], b[2], b[3], c[0], c[1], c[2], c[3], d[0], d[1],
             d[2], d[3], e[0], e[1], e[2], e[3],
@@ -141,8 +148,6 @@ impl Id {
     pub fn lower(self, other: Id) -> bool
         ensures { result ≡ nat_lt (num self) (num other) }
     {
-        self.read_words();
-        other.read_words();
         self < other
     }
 
@@ -150,17 +155,7 @@ impl Id {
     pub fn order(self, other: Id) -> Ordering
         ensures { MatchOrdering result (num self < num other) (self ≡ other) (num other < num self) }
     {
-        self.read_words();
-        other.read_words();
         self.cmp(&other)
-    }
-
-    // Each word has 32 bits, as its type says. The check knows it of the words that a function reads, so a function that compares
-    // or spells all of them calls this one.
-    fn read_words(&self)
-        ensures { Words self.now }
-    {
-        let [_first, _second, _third, _fourth, _fifth] = self.words;
     }
 }
 

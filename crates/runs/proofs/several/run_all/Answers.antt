@@ -1,4 +1,4 @@
-use Rattle.std.proofs.Common.{◌≡◌, ◌+◌, List, [], ◌∷◌, ◌++◌, length, map, take, set, Some, sym, refl, ap, ◌∙◌, subst, arith, vec_items}
+use Rattle.std.proofs.Common.{◌≡◌, ◌+◌, List, [], ◌∷◌, ◌++◌, length, map, take, set, sym, refl, ap, ◌∙◌, subst, arith, vec_items}
 use Rattle.std.proofs.lemmas.List.{take_more, length-set, map-append}
 use Rattle.revision.specs.Owned.{sizes_of}
 use Rattle.runs.specs.Several.{addressed_of, EachRan}

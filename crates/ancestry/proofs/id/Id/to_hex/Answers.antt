@@ -15,5 +15,4 @@ returns c =
       letters = spelt;
       back = ap from_hex spelt ∙ hex-back (num c.args.self) c.to_bytes-bytes.ensures.bits;
       bits = c.to_bytes-bytes.ensures.bits;
-      held = c.to_bytes-bytes.ensures.held;
     }

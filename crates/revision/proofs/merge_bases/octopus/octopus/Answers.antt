@@ -1,4 +1,4 @@
-use Rattle.std.proofs.Common.{eqb, ◌≡◌, List, length, None, sym, ap, ◌∙◌, arith}
+use Rattle.std.proofs.Common.{◌≡◌, List, length, None, sym, ap, ◌∙◌, arith}
 use Rattle.std.proofs.lemmas.List.{length-map}
 use Rattle.ancestry.proofs.Library.{all-same}
 use Rattle.ancestry.specs.Asking.{space_of, denied}

@@ -1,11 +1,8 @@
-use Rattle.std.proofs.Common.{ℕ, List, length, subst}
+use Rattle.std.proofs.Common.{List, length, subst}
 use Rattle.ancestry.specs.Ids.{num}
-use Rattle.ancestry.specs.declared.id.Id.{Id}
 use Rattle.ancestry.specs.Commits.{Commit}
 use Rattle.history.proofs.Sames.{same_then}
 use Rattle.painting.specs.Listings.{listed}
-use Rattle.painting.specs.Seeded.{meeting}
-use Rattle.painting.specs.Walks.{Bests}
 use Rattle.revision.specs.Searching.{Fits}
 use Rattle.revision.proofs.Folds.{folded_more}
 use Rattle.revision.proofs.merge_bases.search.Search.find_common.Goals as goal
